@@ -16,7 +16,7 @@ CONTRACTS = {
     "Store::run": ("store", "Running", ["Runs", "HaveCauses"]),
     "a_crash_leaves_a_prefix_of_the_commits": ("store", "Prefixes", ["RunsLeaveThePrefix", "RunsHappen"]),
     "a_table_can_be_opened_again": ("store", "Restarting", ["StoresCanBeOpened", "ImagesCanBeOpened"]),
-    "open": ("store", "Opening", ["IsOpened", "LeavesTables"]),
+    "open": ("table_openings", "Opening", ["IsOpened", "LeavesTables"]),
 }
 HEAD = re.compile(r"^ *(?:abbrev pub|pub record|pub data|abbrev|record|data) ([\w\-]+)")
 USE = re.compile(r"^(?:unfoldable )?(?:pub )?use Rattle\.(\w+)\.specs\.([\w.]+)\.\{([^}]*)\}", re.M)

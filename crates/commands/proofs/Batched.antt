@@ -15,11 +15,11 @@ use Rattle.table.specs.State.{State}
 use Rattle.table.specs.Calls.{Call, query, fetch, close, Answer, cursor, batch, ended}
 use Rattle.table.specs.Refusing.{Run}
 use Rattle.table.specs.Queries.{given, given_by, leaves_open, QueriesGiveABeginning, FinishedQueriesGiveAll}
-use Rattle.store.specs.declared.store.Store.{Store}
-use Rattle.store.specs.Stands.{Stands}
-use Rattle.store.specs.Promises.{ActsFrom}
-use Rattle.store.specs.Shown.{IsShownAs}
-use Rattle.store.specs.declared.passing.FetchedRows.{FetchedRows}
+use Rattle.table_state.specs.declared.standing.Core.{Core}
+use Rattle.table_state.specs.Stands.{Stands}
+use Rattle.table_state.specs.Promises.{ActsFrom}
+use Rattle.table_reads.specs.Shown.{IsShownAs}
+use Rattle.table_reads.specs.declared.passing.FetchedRows.{FetchedRows}
 use Rattle.scan.specs.Left.{rows_held}
 use Rattle.commands.specs.Querying.{only_reads, ActsOn, OnlyReads}
 use Rattle.commands.specs.QueryFile.{query_rows, first_of}
@@ -74,19 +74,19 @@ none_fetched_as fetched is = subst (λ (o : Option FetchedRows). IsShownAs (Ok o
 
 module _ {D : Type 0} (state : D → DiskState) where
   -- no call was made
-  pub nothing_read : (store : Store D) (s : State) → OnlyReads state store store s
+  pub nothing_read : (store : Core D) (s : State) → OnlyReads state store store s
   nothing_read store s = record { calls = []; answers = []; last = s; acts = (refl, refl); read = refl }
 
-  pub begins : (store : Store D) (n : ℕ) (Done : List Batch → Type 0) (s : State) → Stands state store s → Done [] → HasFetched state store store n Done s
+  pub begins : (store : Core D) (n : ℕ) (Done : List Batch → Type 0) (s : State) → Stands state store s → Done [] → HasFetched state store store n Done s
   begins store n Done s stands done = record { calls = []; answers = []; last = s; acts = (refl, refl); as_many = refl; fetches = tt; stands = stands; done = done }
 
   -- no fetch was made
-  pub none_fetched : {T : Type 0} (store : Store D) (n : ℕ) (Done Enough : List Batch → Type 0) (result : Result T Refusal) (s : State) → Stands state store s → OnOk result (FetchesUpTo n Done Enough [] [])
+  pub none_fetched : {T : Type 0} (store : Core D) (n : ℕ) (Done Enough : List Batch → Type 0) (result : Result T Refusal) (s : State) → Stands state store s → OnOk result (FetchesUpTo n Done Enough [] [])
       → FetchesFirst state store store n Done Enough result s
   none_fetched store n Done Enough result s stands all = record { calls = []; answers = []; last = s; acts = (refl, refl); fetches = tt; stands = stands; all = all }
 
   -- a batch more is there
-  pub goes_on : (old mid new : Store D) (n : ℕ) (Done Again : List Batch → Type 0) (s : State) (has : HasFetched state old mid n Done s) (b : Batch) → ActsFrom state mid new (fetch n) (batch b) has.last
+  pub goes_on : (old mid new : Core D) (n : ℕ) (Done Again : List Batch → Type 0) (s : State) (has : HasFetched state old mid n Done s) (b : Batch) → ActsFrom state mid new (fetch n) (batch b) has.last
       → ((bs : List Batch) → Done bs → Again (bs ++ b ∷ [])) → HasFetched state old new n Again s
   goes_on old mid new n Done Again s has b acts one = record {
     calls = has.calls ++ fetch n ∷ [];
@@ -100,7 +100,7 @@ module _ {D : Type 0} (state : D → DiskState) where
   }
 
   -- the last fetch
-  pub ends : {T : Type 0} (old mid new : Store D) (n : ℕ) (Done Again Enough : List Batch → Type 0) (result : Result T Refusal) (s : State) (has : HasFetched state old mid n Done s) (answer : Answer)
+  pub ends : {T : Type 0} (old mid new : Core D) (n : ℕ) (Done Again Enough : List Batch → Type 0) (result : Result T Refusal) (s : State) (has : HasFetched state old mid n Done s) (answer : Answer)
       (acts : ActsFrom state mid new (fetch n) answer has.last) → OnOk result (FetchesUpTo n Again Enough (has.calls ++ fetch n ∷ []) (has.answers ++ answer ∷ [])) → FetchesFirst state old new n Again Enough result s
   ends old mid new n Done Again Enough result s has answer acts all = record {
     calls = has.calls ++ fetch n ∷ [];
@@ -113,12 +113,12 @@ module _ {D : Type 0} (state : D → DiskState) where
   }
 
   -- no fetch more is made
-  pub stops : {T : Type 0} (old new : Store D) (n : ℕ) (Done Again Enough : List Batch → Type 0) (result : Result T Refusal) (s : State) (has : HasFetched state old new n Done s) → OnOk result (FetchesUpTo n Again Enough has.calls has.answers)
+  pub stops : {T : Type 0} (old new : Core D) (n : ℕ) (Done Again Enough : List Batch → Type 0) (result : Result T Refusal) (s : State) (has : HasFetched state old new n Done s) → OnOk result (FetchesUpTo n Again Enough has.calls has.answers)
       → FetchesFirst state old new n Again Enough result s
   stops old new n Done Again Enough result s has all = record { calls = has.calls; answers = has.answers; last = has.last; acts = has.acts; fetches = has.fetches; stands = has.stands; all = all }
 
   -- it gave the end
-  pub all_fetched : (old mid : Store D) (n : ℕ) (Done Again Enough : List Batch → Type 0) (s : State) (has : HasFetched state old mid n Done s) → ((bs : List Batch) → Done bs → Again bs)
+  pub all_fetched : (old mid : Core D) (n : ℕ) (Done Again Enough : List Batch → Type 0) (s : State) (has : HasFetched state old mid n Done s) → ((bs : List Batch) → Done bs → Again bs)
       → FetchesUpTo n Again Enough (has.calls ++ fetch n ∷ []) (has.answers ++ ended ∷ [])
   all_fetched old mid n Done Again Enough s has so = record {
     front = has.calls;
@@ -130,7 +130,7 @@ module _ {D : Type 0} (state : D → DiskState) where
   }
 
   -- what it gave is enough
-  pub enough : (old new : Store D) (n : ℕ) (Done Again Enough : List Batch → Type 0) (s : State) (has : HasFetched state old new n Done s) → ((bs : List Batch) → Done bs → Again bs) → ((bs : List Batch) → Done bs → Enough bs)
+  pub enough : (old new : Core D) (n : ℕ) (Done Again Enough : List Batch → Type 0) (s : State) (has : HasFetched state old new n Done s) → ((bs : List Batch) → Done bs → Again bs) → ((bs : List Batch) → Done bs → Enough bs)
       → FetchesFirst {T = Unit {0}} state old new n Again Enough (Ok tt) s
   enough old new n Done Again Enough s has so is_enough_so = record {
     calls = has.calls;
@@ -151,12 +151,12 @@ module _ {D : Type 0} (state : D → DiskState) where
 
   -- ---- a query, its fetches, and the end of its cursor
 
-  module _ (old mid : Store D) (terms : Filter) (columns : Columns) (s : State) where
+  module _ (old mid : Core D) (terms : Filter) (columns : Columns) (s : State) where
     pub asked : (answer : Answer) → ActsFrom state old mid (query terms columns) answer s → OnlyReads state old mid s
     asked answer acts = record { calls = query terms columns ∷ []; answers = answer ∷ []; last = acts.after; acts = one_made state old mid (query terms columns) answer s acts; read = refl }
 
     module _ (n : ℕ) (acts : ActsFrom state old mid (query terms columns) (cursor n) s) where
-      pub closed : {T : Type 0} (end new : Store D) (Done Enough : List Batch → Type 0) (result : Result T Refusal) (left : FetchesFirst state mid end n Done Enough result acts.after) (answer : Answer)
+      pub closed : {T : Type 0} (end new : Core D) (Done Enough : List Batch → Type 0) (result : Result T Refusal) (left : FetchesFirst state mid end n Done Enough result acts.after) (answer : Answer)
           → ActsFrom state end new (close n) answer left.last → OnlyReads state old new s
       closed end new Done Enough result left answer closing = record {
         calls = query terms columns ∷ left.calls ++ close n ∷ [];
@@ -168,7 +168,7 @@ module _ {D : Type 0} (state : D → DiskState) where
       }
 
       -- What is so of the first rows of the batches, where they are rows of the wanted columns, is so of the first of the rows that satisfy.
-      pub of_rows : QueriesGiveABeginning → FinishedQueriesGiveAll → Stands state old s → (fs : Fields) (limit : Option ℕ) (Has : List ValueTrees → Type 0) (end : Store D) (calls : List Call) (answers : List Answer) (last : State)
+      pub of_rows : QueriesGiveABeginning → FinishedQueriesGiveAll → Stands state old s → (fs : Fields) (limit : Option ℕ) (Has : List ValueTrees → Type 0) (end : Core D) (calls : List Call) (answers : List Answer) (last : State)
           → ActsOn state mid calls answers end acts.after last → FetchesUpTo n (WhereFitting fs (λ (rows : List ValueTrees). Has (first_of limit rows))) (WhereFitting fs (AreEnough limit)) calls answers → RowsFit fs (query_rows terms columns s.table)
           → Has (first_of limit (query_rows terms columns s.table))
       of_rows beginning finished stands fs limit Has end calls answers last made all fit = subst (λ (rs : List ValueTrees). Has (first_of limit rs)) (rows_of_query terms columns s.table) (by all.over)

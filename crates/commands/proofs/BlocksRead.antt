@@ -15,7 +15,7 @@ use Rattle.footer.specs.declared.options.WriteOptions.{WriteOptions}
 use Rattle.manifest.specs.Groups.{Root}
 use Rattle.gather.specs.declared.gathered.Gathered.{Gathered}
 use Rattle.gather.specs.GatheredRows.{holds}
-use Rattle.store.specs.Gathering.{AreGatheredFor, KeepsTable}
+use Rattle.table_commits.specs.Gathering.{AreGatheredFor, KeepsTable}
 use Rattle.commands.specs.Lines.{AreRowTexts, IsRefusedLine}
 use Rattle.commands.specs.Blocks.{AreKnown, ReadsBlock, IsRefusedIn, HasFirstFaultIn, AreRefusedIn, AreRefusedOf}
 use Rattle.commands.specs.inner.LineCuts.{IsLineLength, IsWholeLength}

@@ -7,12 +7,12 @@ use Rattle.table.specs.Plans.{summary, row_count}
 use Rattle.table.specs.State.{State}
 use Rattle.table.specs.Views.{info_view}
 use Rattle.table.specs.Calls.{count, groups, Answer, counted, listed}
-use Rattle.store.specs.declared.store.Store.{Store}
-use Rattle.store.specs.Promises.{ActsFrom}
+use Rattle.table_state.specs.declared.standing.Core.{Core}
+use Rattle.table_state.specs.Promises.{ActsFrom}
 use Rattle.commands.specs.Querying.{OnlyReads}
 use Rattle.commands.proofs.OneByOne.{one_made}
 
-module _ {D : Type 0} (state : D → DiskState) (old new : Store D) where
+module _ {D : Type 0} (state : D → DiskState) (old new : Core D) where
   -- a count is a call that only reads
   pub counts : (terms : Filter) (s : State) (answer : Answer) → ActsFrom state old new (count terms) answer s → OnlyReads state old new s
   counts terms s answer acts = record { calls = count terms ∷ []; answers = answer ∷ []; last = acts.after; acts = one_made state old new (count terms) answer s acts; read = refl }

@@ -13,12 +13,12 @@ use Rattle.vault.specs.Calls.{HasFailed, LeavesAll}
 use Rattle.vault.proofs.Moments.{le_or, clear_after}
 use Rattle.footer.specs.declared.options.WriteOptions.{WriteOptions}
 use Rattle.recovery.proofs.Sweeping.{reads_on}
-use Rattle.store.specs.Spares.{HasRoom}
+use Rattle.table_state.specs.Spares.{HasRoom}
 use Rattle.table.specs.Table.{Table, empty_table}
 use Rattle.table.specs.State.{opened}
-use Rattle.store.specs.declared.store.Store.{Store}
-use Rattle.store.specs.Stands.{Stands}
-use Rattle.store.specs.Opening.{disk_of, AreNamedKeys, HasNoRoot, LeavesNoneOr, IsCreatable, IsNotCreated}
+use Rattle.table_state.specs.declared.standing.Core.{Core}
+use Rattle.table_state.specs.Stands.{Stands}
+use Rattle.table_openings.specs.Opening.{disk_of, AreNamedKeys, HasNoRoot, LeavesNoneOr, IsCreatable, IsNotCreated}
 use Rattle.commands.specs.Creating.{OnlyLooks, CreatesOn, MakesTable, created_so, only_looked}
 
 -- ---- looks
@@ -107,7 +107,7 @@ after_look state o schema names old mid new result look c =
 -- ---- the store's call
 
 -- what the store's call promises, in one place
-pub record StoreCreates {D : Type 0} (state : D → DiskState) (o : WriteOptions) (schema : Fields) (names : List (List ℕ)) (old : D) (result : Result (Store D) (D × Refusal))
+pub record StoreCreates {D : Type 0} (state : D → DiskState) (o : WriteOptions) (schema : Fields) (names : List (List ℕ)) (old : D) (result : Result (Core D) (D × Refusal))
     : Type 0 where
   pub created : (state old).honest → (keys : List KeyColumn) → AreNamedKeys schema names keys → HasRoom keys (state old)
       → IfOk result (λ store. Stands state store (opened o (empty_table schema keys)))
@@ -124,7 +124,7 @@ pub record StoreCreates {D : Type 0} (state : D → DiskState) (o : WriteOptions
   pub honest : (state old).honest ↔ (state (disk_of result)).honest
 
 module _ {D : Type 0} (state : D → DiskState) (o : WriteOptions) (schema : Fields) (names : List (List ℕ)) (old : D) where
-  of_ok : (store : Store D) → StoreCreates state o schema names old (Ok store) → CreatesOn state o schema names old store.vault.disk (Ok tt)
+  of_ok : (store : Core D) → StoreCreates state o schema names old (Ok store) → CreatesOn state o schema names old store.vault.disk (Ok tt)
   of_ok store calls = record {
     created = λ honest keys named room. (store, refl, calls.created honest keys named room);
     moments = calls.moments;
@@ -139,7 +139,7 @@ module _ {D : Type 0} (state : D → DiskState) (o : WriteOptions) (schema : Fie
   }
 
   -- it made the table, and the store's disk is taken
-  pub store_made : (store : Store D) (new : D) → new ≡ store.vault.disk → StoreCreates state o schema names old (Ok store) → CreatesOn state o schema names old new (Ok tt)
+  pub store_made : (store : Core D) (new : D) → new ≡ store.vault.disk → StoreCreates state o schema names old (Ok store) → CreatesOn state o schema names old new (Ok tt)
   store_made store new is calls = subst (λ (d : D). CreatesOn state o schema names old d (Ok tt)) (sym is) (of_ok store calls)
 
   -- it was refused

@@ -6,8 +6,8 @@ use Rattle.footer.specs.Writing.{IsOutOfRange, empty_groups, large_groups, empty
 use Rattle.disk.specs.State.{State as DiskState}
 use Rattle.table.specs.Table.{Table}
 use Rattle.table.specs.State.{opened}
-use Rattle.store.specs.declared.store.Store.{Store}
-use Rattle.store.specs.Stands.{Stands}
+use Rattle.table_state.specs.declared.standing.Core.{Core}
+use Rattle.table_state.specs.Stands.{Stands}
 use Rattle.commands.specs.Kept.{IsRestyled, StaysOpened}
 
 -- the style is in no range
@@ -18,7 +18,7 @@ out_of_range o style (empty_pages e) = empty_pages e
 out_of_range o style (other_version e f) = other_version e f
 
 module _ {D : Type 0} (state : D → DiskState) where
-  with_style : (store : Store D) (style : Style) (o : WriteOptions) (t : Table) → Stands state store (opened o t)
+  with_style : (store : Core D) (style : Style) (o : WriteOptions) (t : Table) → Stands state store (opened o t)
       → Stands state (record store { options = record store.options { style = style } }) (opened (record o { style = style }) t)
   with_style store style o t stands =
       let shows = stands.shows in
@@ -61,5 +61,5 @@ module _ {D : Type 0} (state : D → DiskState) where
         };
       }
 
-  pub restyled : (old new : Store D) → IsRestyled old new → StaysOpened state old new
-  restyled old new same = λ o t stands. subst (λ (store : Store D). Stands state store (opened (record o { style = new.options.style }) t)) (sym same) (with_style old new.options.style o t stands)
+  pub restyled : (old new : Core D) → IsRestyled old new → StaysOpened state old new
+  restyled old new same = λ o t stands. subst (λ (store : Core D). Stands state store (opened (record o { style = new.options.style }) t)) (sym same) (with_style old new.options.style o t stands)

@@ -11,9 +11,9 @@ use Rattle.table.specs.State.{State}
 use Rattle.table.specs.Calls.{Call, begin_append, stage, abort, Answer, job, accepted, refused}
 use Rattle.table.specs.Views.{answered}
 use Rattle.table.specs.Refusing.{Happens, IsRefused, Stays, checked, stale, foreign, unfit, over, no_memory, failed, in_doubt}
-use Rattle.store.specs.declared.store.Store.{Store}
-use Rattle.store.specs.Stands.{Stands}
-use Rattle.store.specs.Promises.{ActsFrom}
+use Rattle.table_state.specs.declared.standing.Core.{Core}
+use Rattle.table_state.specs.Stands.{Stands}
+use Rattle.table_state.specs.Promises.{ActsFrom}
 use Rattle.commands.specs.Querying.{ActsOn}
 use Rattle.commands.specs.Importing.{files_view, MeanRows, StagesFiles, IsRefusedFile, RefusesFile, StopsAtFile, ImportsNone, not_opened, not_staged}
 use Rattle.commands.specs.inner.Staged.{StagesOne}
@@ -65,11 +65,11 @@ split_files (f ∷ files) (suc n) file lt is = ap (λ (bytes : List (List ℕ)).
 -- ---- of a store
 
 module _ {D : Type 0} (state : D → DiskState) where
-  pub none_staged : (store : Store D) (n : ℕ) (s : State) → Stands state store s → StagesFiles state store store n [] s
+  pub none_staged : (store : Core D) (n : ℕ) (s : State) → Stands state store s → StagesFiles state store store n [] s
   none_staged store n s stands = record { rows = []; last = s; mean = tt; acts = (refl, refl); stands = stands; table = refl }
 
   -- the rows of a file more are staged
-  pub staged_more : (old mid new : Store D) (n : ℕ) (files : List (List ℕ)) (file : List ℕ) (rows : List ValueTrees) (s : State) (has : StagesFiles state old mid n files s) → FileMeans file has.last.table.schema rows
+  pub staged_more : (old mid new : Core D) (n : ℕ) (files : List (List ℕ)) (file : List ℕ) (rows : List ValueTrees) (s : State) (has : StagesFiles state old mid n files s) → FileMeans file has.last.table.schema rows
       → ActsFrom state mid new (stage n rows) accepted has.last → StagesFiles state old new n (files ++ file ∷ []) s
   staged_more old mid new n files file rows s has means acts =
       let calls : map (stage n) (has.rows ++ rows ∷ []) ≡ map (stage n) has.rows ++ stage n rows ∷ [] = map-append (stage n) has.rows (rows ∷ []) in
@@ -86,11 +86,11 @@ module _ {D : Type 0} (state : D → DiskState) where
       }
 
   -- the bytes of a file are refused
-  pub bytes_refused : (store : Store D) (n : ℕ) (file : List ℕ) (e : Refusal) (s : State) → Stands state store s → IsRefusedFile s.table.schema file e → RefusesFile state store store n file e s
+  pub bytes_refused : (store : Core D) (n : ℕ) (file : List ℕ) (e : Refusal) (s : State) → Stands state store s → IsRefusedFile s.table.schema file e → RefusesFile state store store n file e s
   bytes_refused store n file e s stands why = record { last = s; stands = stands; table = refl; why = inl (why, refl, refl) }
 
   -- the call that stages the rows of a file was made
-  pub stages_one : {T : Type 0} (old new : Store D) (n : ℕ) (file : List ℕ) (rows : List ValueTrees) (s : State) (result : Result T Refusal) → FileMeans file s.table.schema rows
+  pub stages_one : {T : Type 0} (old new : Core D) (n : ℕ) (file : List ℕ) (rows : List ValueTrees) (s : State) (result : Result T Refusal) → FileMeans file s.table.schema rows
       → ActsFrom state old new (stage n rows) (answered (λ _. accepted) result) s → StagesOne state old new n file result s
   stages_one old new n file rows s (Ok x) means acts = (rows, means, acts)
   stages_one old new n file rows s (Err e) means acts = record {
@@ -101,17 +101,17 @@ module _ {D : Type 0} (state : D → DiskState) where
   }
 
   -- the next file is the first that is refused
-  pub stops_here : (old mid new : Store D) (n : ℕ) (before : List (List ℕ)) (file : List ℕ) (behind : List (List ℕ)) (e : Refusal) (s : State) (has : StagesFiles state old mid n before s) → RefusesFile state mid new n file e has.last
+  pub stops_here : (old mid new : Core D) (n : ℕ) (before : List (List ℕ)) (file : List ℕ) (behind : List (List ℕ)) (e : Refusal) (s : State) (has : StagesFiles state old mid n before s) → RefusesFile state mid new n file e has.last
       → StopsAtFile state old new n (before ++ file ∷ behind) e s
   stops_here old mid new n before file behind e s has refuses = record { before = before; file = file; behind = behind; joined = refl; mid = mid; staged = has; refuses = refuses }
 
   -- no file came in
-  pub none_came : (old mid late new : Store D) (n : ℕ) (files : List (List ℕ)) (e : Refusal) {T : Type 0} (result : Result T Refusal) (s : State) (first : ActsFrom state old mid begin_append (job n) s)
+  pub none_came : (old mid late new : Core D) (n : ℕ) (files : List (List ℕ)) (e : Refusal) {T : Type 0} (result : Result T Refusal) (s : State) (first : ActsFrom state old mid begin_append (job n) s)
       (stops : StopsAtFile state mid late n files e first.after) → ActsFrom state late new (abort n) (answered (λ _. accepted) result) stops.refuses.last → ImportsNone state old new files e s
   none_came old mid late new n files e result s first stops ending =
       let same : stops.refuses.last.table ≡ s.table = stops.refuses.table ∙ (stops.staged.table ∙ begin_same s first.after n first.happens) in
       not_staged mid late n (answered (λ _. accepted) result) first stops ending (abort_same stops.refuses.last ending.after n result ending.happens ∙ same)
 
   -- the append was not opened
-  pub none_opened : (old new : Store D) (files : List (List ℕ)) (e : Refusal) (s : State) → ActsFrom state old new begin_append (refused e) s → ImportsNone state old new files e s
+  pub none_opened : (old new : Core D) (files : List (List ℕ)) (e : Refusal) (s : State) → ActsFrom state old new begin_append (refused e) s → ImportsNone state old new files e s
   none_opened old new files e s acts = not_opened acts (begin_refused s acts.after e acts.happens)

@@ -13,12 +13,12 @@ use Rattle.table.specs.Views.{call_view, answer_view}
 use Rattle.table.specs.declared.answer.Answer.{Answer as CodeAnswer}
 use Rattle.table.specs.declared.answer.Answer.TheVariants as told
 use Rattle.table.specs.declared.call.Call.{Call as CodeCall}
-use Rattle.store.specs.declared.store.Store.{Store}
-use Rattle.store.specs.OnDisk.{Holds}
-use Rattle.store.specs.Stands.{Stands}
-use Rattle.store.specs.Promises.{ActsFrom}
+use Rattle.table_state.specs.declared.standing.Core.{Core}
+use Rattle.table_state.specs.OnDisk.{HoldsTable}
+use Rattle.table_state.specs.Stands.{Stands}
+use Rattle.table_state.specs.Promises.{ActsFrom}
 use Rattle.store.specs.Running.{RunsFrom}
-use Rattle.store.proofs.Joins.{nothing_yet, one_more}
+use Rattle.store.proofs.RunJoins.{nothing_yet, one_more}
 use Rattle.commands.specs.Stopping.{is_done, AreDone, EndAtRefusal, StopsAt, MakesToRefusalFrom}
 use Rattle.commands.specs.declared.stopping.Stop.{Stop}
 
@@ -99,7 +99,7 @@ parted calls n = ap (map call_view) (sym (take-append-drop n calls)) ∙ map-app
 
 module _ {D : Type 0} (state : D → DiskState) where
   -- a run of one call
-  one_of : (old new : Store D) (call : Call) (answer : Answer) (s : State) → RunsFrom state old new (call ∷ []) (answer ∷ []) s → ActsFrom state old new call answer s
+  one_of : (old new : Core D) (call : Call) (answer : Answer) (s : State) → RunsFrom state old new (call ∷ []) (answer ∷ []) s → ActsFrom state old new call answer s
   one_of old new call answer s run =
       let r = run.runs in
       let images = (state new.vault.disk).images in
@@ -108,13 +108,13 @@ module _ {D : Type 0} (state : D → DiskState) where
       record {
         after = run.after;
         happens = subst (λ (t : State). Happens s call answer t) (sym r.4.1) r.2;
-        survives = subst (λ (t : State). Survives images Holds start finish s t) (sym r.4.1) (subst (λ (m : ℕ). Survives images Holds start m s r.1) r.4.0 r.3);
+        survives = subst (λ (t : State). Survives images HoldsTable start finish s t) (sym r.4.1) (subst (λ (m : ℕ). Survives images HoldsTable start m s r.1) r.4.0 r.3);
         stands = run.stands;
         past = run.past;
       }
 
   -- the last answer of a run of one call
-  pub one_call : (old new : Store D) (call : Call) (all xs : List CodeAnswer) (x : CodeAnswer) (s : State) → all ≡ xs ++ x ∷ [] → RunsFrom state old new (call ∷ []) (map answer_view all) s → ActsFrom state old new call (answer_view x) s
+  pub one_call : (old new : Core D) (call : Call) (all xs : List CodeAnswer) (x : CodeAnswer) (s : State) → all ≡ xs ++ x ∷ [] → RunsFrom state old new (call ∷ []) (map answer_view all) s → ActsFrom state old new call (answer_view x) s
   one_call old new call all xs x s e run = by xs (subst (λ (ys : List CodeAnswer). RunsFrom state old new (call ∷ []) (map answer_view ys) s) e run)
     where
       by : (ys : List CodeAnswer) → RunsFrom state old new (call ∷ []) (map answer_view (ys ++ x ∷ [])) s → ActsFrom state old new call (answer_view x) s
@@ -123,12 +123,12 @@ module _ {D : Type 0} (state : D → DiskState) where
       by (y ∷ z ∷ ys) many = absurd many.runs.4
 
   -- it has one
-  pub one_answer : {A : Type 0} (old new : Store D) (call : Call) (all : List CodeAnswer) (s : State) → length all ≡ 0 → RunsFrom state old new (call ∷ []) (map answer_view all) s → A
+  pub one_answer : {A : Type 0} (old new : Core D) (call : Call) (all : List CodeAnswer) (s : State) → length all ≡ 0 → RunsFrom state old new (call ∷ []) (map answer_view all) s → A
   one_answer old new call [] s none run = absurd run.runs
   one_answer old new call (x ∷ xs) s none run = absurd (omega (arith, none))
 
   -- none was made yet
-  pub nothing_made : (store : Store D) (calls : List CodeCall) (answers : List CodeAnswer) (s : State) → answers ≡ [] → Stands state store s → RunsFrom state store store (map call_view (take 0 calls)) (map answer_view answers) s
+  pub nothing_made : (store : Core D) (calls : List CodeCall) (answers : List CodeAnswer) (s : State) → answers ≡ [] → Stands state store s → RunsFrom state store store (map call_view (take 0 calls)) (map answer_view answers) s
   nothing_made store calls answers s none stands = subst (λ (xs : List CodeAnswer). RunsFrom state store store (map call_view (take 0 calls)) (map answer_view xs) s) (sym none) (by calls)
     where
       by : (cs : List CodeCall) → RunsFrom state store store (map call_view (take 0 cs)) [] s
@@ -136,7 +136,7 @@ module _ {D : Type 0} (state : D → DiskState) where
       by (c ∷ cs) = nothing_yet state store s stands
 
   -- one more was made
-  pub made_more : (old mid new : Store D) (calls : List CodeCall) (i : ℕ) (call : CodeCall) (answers : List CodeAnswer) (answer : CodeAnswer) (s : State) → i < length calls → call ≡ get_or calls i call
+  pub made_more : (old mid new : Core D) (calls : List CodeCall) (i : ℕ) (call : CodeCall) (answers : List CodeAnswer) (answer : CodeAnswer) (s : State) → i < length calls → call ≡ get_or calls i call
       → (run : RunsFrom state old mid (map call_view (take i calls)) (map answer_view answers) s) → ActsFrom state mid new (call_view call) (answer_view answer) run.after
       → RunsFrom state old new (map call_view (take (i + 1) calls)) (map answer_view (answers ++ answer ∷ [])) s
   made_more old mid new calls i call answers answer s lt is run acts =
@@ -145,10 +145,10 @@ module _ {D : Type 0} (state : D → DiskState) where
       (one_more state old mid new (map call_view (take i calls)) (map answer_view answers) s run (call_view call) (answer_view answer) acts))
 
   -- the first so many were made
-  pub first_made : (old new : Store D) (calls : List CodeCall) (n : ℕ) (answers : List Answer) (s : State) → RunsFrom state old new (map call_view (take n calls)) answers s → MakesToRefusalFrom state old new (map call_view calls) answers s
+  pub first_made : (old new : Core D) (calls : List CodeCall) (n : ℕ) (answers : List Answer) (s : State) → RunsFrom state old new (map call_view (take n calls)) answers s → MakesToRefusalFrom state old new (map call_view calls) answers s
   first_made old new calls n answers s run = record { made = map call_view (take n calls); left = map call_view (drop n calls); joined = parted calls n; runs = run }
 
   -- and the store is as it was then
-  pub first_made_at : (old mid new : Store D) → new ≡ mid → (calls : List CodeCall) (n : ℕ) (answers : List Answer) (s : State) → RunsFrom state old mid (map call_view (take n calls)) answers s
+  pub first_made_at : (old mid new : Core D) → new ≡ mid → (calls : List CodeCall) (n : ℕ) (answers : List Answer) (s : State) → RunsFrom state old mid (map call_view (take n calls)) answers s
       → MakesToRefusalFrom state old new (map call_view calls) answers s
-  first_made_at old mid new same calls n answers s run = subst (λ (store : Store D). MakesToRefusalFrom state old store (map call_view calls) answers s) (sym same) (first_made old mid calls n answers s run)
+  first_made_at old mid new same calls n answers s run = subst (λ (store : Core D). MakesToRefusalFrom state old store (map call_view calls) answers s) (sym same) (first_made old mid calls n answers s run)

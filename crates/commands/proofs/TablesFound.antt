@@ -14,10 +14,10 @@ use Rattle.gather.specs.GatheredRows.{holds}
 use Rattle.table.specs.State.{State}
 use Rattle.table.specs.Calls.{append, done}
 use Rattle.table.specs.Views.{answered}
-use Rattle.store.specs.declared.store.Store.{Store}
-use Rattle.store.specs.Gathering.{AreGatheredFor}
-use Rattle.store.specs.Stands.{Stands}
-use Rattle.store.specs.Promises.{Acts}
+use Rattle.table_state.specs.declared.standing.Core.{Core}
+use Rattle.table_commits.specs.Gathering.{AreGatheredFor}
+use Rattle.table_state.specs.Stands.{Stands}
+use Rattle.table_state.specs.Promises.{Acts}
 use Rattle.dataset_words.specs.declared.call.Call.{Call}
 use Rattle.commands.specs.Opening.{OpensToRead}
 use Rattle.commands.specs.Places.{Known, StaysKnown, IsKeptFrom, InFolder, given_back, not_had}
@@ -31,7 +31,7 @@ only_memory Memory has = refl
 only_memory e has = absurd has
 
 -- what the root of a dataset says that was opened is told, unless memory runs out
-pub found_of : {D : Type 0} {state : D → DiskState} {options : WriteOptions} {old new : D} (store : Store D) → OpensToRead state old options (Ok store) → new ≡ store.vault.disk
+pub found_of : {D : Type 0} {state : D → DiskState} {options : WriteOptions} {old new : D} (store : Core D) → OpensToRead state old options (Ok store) → new ≡ store.vault.disk
     → (told : Result Manifest Refusal) → IfOk told (λ m. root_of m ≡ root_of store.manifest) → RefusedMemoryOnly told → FindsTable state options old new told
 found_of store opens back (Ok table) same which = found store table opens back same refl
 found_of store opens back (Err e) same which = not_told store opens back (ap Err (only_memory e which))
@@ -68,15 +68,15 @@ in_folder_so Comes Others result so (given_back begun ended was is others comes)
 in_folder_so Comes Others result so (not_had e kept stays unchanged is) = not_had e kept stays unchanged is
 
 -- what is made of a disk, where more is known of what is made of its store
-pub changes_so : {D S : Type 0} {state : D → DiskState} {options : WriteOptions} (Comes Others : Store (Watched D S) → Store (Watched D S) → Result ⊤ Refusal → Type 0)
-    {before after : Option (List ℕ)} {old new : Watched D S} (result : Result ⊤ Refusal) → ((from to : Store (Watched D S)) → Comes from to result → Others from to result)
+pub changes_so : {D S : Type 0} {state : D → DiskState} {options : WriteOptions} (Comes Others : Core (Watched D S) → Core (Watched D S) → Result ⊤ Refusal → Type 0)
+    {before after : Option (List ℕ)} {old new : Watched D S} (result : Result ⊤ Refusal) → ((from to : Core (Watched D S)) → Comes from to result → Others from to result)
     → ChangesDisk state options Comes before after old new result → ChangesDisk state options Others before after old new result
 changes_so Comes Others result so (changed opened to cleaned opens comes cleans back) = changed opened to cleaned opens (so _ to comes) cleans back
 changes_so Comes Others result so (not_opened e opens unprinted is) = not_opened e opens unprinted is
 
 -- ---- rows
 
-module _ {D : Type 0} (state : D → DiskState) (root : Root) (options : WriteOptions) (given : List ValueTrees) (old new : Store D) (g : Gathered) (result : Result ℕ Refusal) where
+module _ {D : Type 0} (state : D → DiskState) (root : Root) (options : WriteOptions) (given : List ValueTrees) (old new : Core D) (g : Gathered) (result : Result ℕ Refusal) where
   -- gathered rows were appended, or are of another table
   pub appended_from : holds g given → AreGatheredFor root options g
       → ((rows : List ValueTrees) → holds g rows → AreGatheredFor (root_of old.manifest) old.options g → Acts state old new (append rows) (answered done result))

@@ -12,7 +12,7 @@ use Rattle.table.specs.Table.{Table}
 use Rattle.table.specs.Deciding.{Filter}
 use Rattle.table.specs.State.{State}
 use Rattle.table.specs.Views.{names_view}
-use Rattle.store.specs.declared.store.Store.{Store}
+use Rattle.table_state.specs.declared.standing.Core.{Core}
 use Rattle.commands.specs.Importing.{files_view}
 use Rattle.commands.specs.Making.{RunsScript, RunsScriptFrom, ran, not_run}
 use Rattle.commands.specs.Querying.{Reads, read, not_read}
@@ -25,7 +25,7 @@ use Rattle.commands.proofs.OkThen.{ok_always}
 -- ---- questions
 
 -- where memory runs out before anything is read, the store was only read
-pub out_of_memory : {D T : Type 0} (state : D → DiskState) (texts : Bool) (old : Store D) (asked : Option (List ℕ)) (Prints : Filter → Table → Type 0) (Unchanged : Type 0)
+pub out_of_memory : {D T : Type 0} (state : D → DiskState) (texts : Bool) (old : Core D) (asked : Option (List ℕ)) (Prints : Filter → Table → Type 0) (Unchanged : Type 0)
     → Unchanged → Reads {D = D} {T = T} state texts old old asked Prints Unchanged (Err Memory)
 out_of_memory state texts old (Some text) Prints Unchanged same = λ honest s stands. not_read Memory tt refl refl same
 out_of_memory state texts old None Prints Unchanged same = λ honest s stands. read [] refl (record { calls = []; answers = []; last = s; acts = (refl, refl); read = refl }) tt
@@ -46,7 +46,7 @@ pub first_at : (files : List (List ℕ)) → slice_index_or files 0 [] ≡ first
 first_at [] = refl
 first_at (file ∷ files) = refl
 
-module _ {D : Type 0} (state : D → DiskState) (texts : Bool) (old new : Store D) (unless : Option (List ℕ)) (result : Result ℕ Refusal) where
+module _ {D : Type 0} (state : D → DiskState) (texts : Bool) (old new : Core D) (unless : Option (List ℕ)) (result : Result ℕ Refusal) where
   -- one file, or none
   pub one_imported : (files : List (List ℕ)) → length files ≤ 1 → MakesAsked state texts old new unless (AsksImport (first_file files)) (λ fs e. ⊥) result
       → ImportsAsked state texts old new unless files result
@@ -70,12 +70,12 @@ appends_kept (Some x) (Some y) None bs grown kept = absurd kept
 appends_kept (Some x) (Some y) (Some z) bs grown kept = kept ∙ grown
 
 -- the calls of a text are those of the bytes that it is
-pub run_of : {D T : Type 0} (state : D → DiskState) (texts : Bool) (old new : Store D) (text bytes : List ℕ) (before after : Option (List ℕ)) (result : Result T Refusal)
+pub run_of : {D T : Type 0} (state : D → DiskState) (texts : Bool) (old new : Core D) (text bytes : List ℕ) (before after : Option (List ℕ)) (result : Result T Refusal)
     → text ≡ bytes → RunsScript state texts old new text before after result → RunsScript state texts old new bytes before after result
 run_of {T = T} state texts old new text bytes before after result same runs =
     subst (λ (t : List ℕ). RunsScript {T = T} state texts old new t before after result) same runs
 
-module _ {D : Type 0} (state : D → DiskState) (texts : Bool) (old new : Store D) (text : List ℕ) (before mid after : Option (List ℕ)) (kept : Keeps mid after) where
+module _ {D : Type 0} (state : D → DiskState) (texts : Bool) (old new : Core D) (text : List ℕ) (before mid after : Option (List ℕ)) (kept : Keeps mid after) where
   -- a script was run, and all that it printed is passed on, or that is refused
   pub run_on : {S T : Type 0} {x : S} (result : Result T Refusal) (own : List ℕ) → own ≡ text → RunsScript state texts old new own before mid (Ok x)
       → RunsScript state texts old new text before after result

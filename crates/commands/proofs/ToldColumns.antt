@@ -13,7 +13,7 @@ use Rattle.table.specs.Table.{Table}
 use Rattle.table.specs.Plans.{summary}
 use Rattle.table.specs.Views.{info_view}
 use Rattle.manifest.specs.Groups.{Group, Root}
-use Rattle.store.specs.Listing.{told_of, told_by}
+use Rattle.table_reads.specs.Listing.{told_of, told_by}
 use Rattle.jsonrows.specs.GroupColumns.{group_and_columns_json}
 use Rattle.commands.specs.GroupColumns.{Told, told_json, AreColumnLines, AreGroupsTold}
 use Rattle.commands.proofs.Answered.{ArePrinted, none_printed, printed_more}

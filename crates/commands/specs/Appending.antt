@@ -10,17 +10,17 @@ use Rattle.manifest.specs.declared.description.Manifest.{Manifest}
 use Rattle.table.specs.State.{State}
 use Rattle.table.specs.Calls.{append, done}
 use Rattle.table.specs.Views.{answered}
-use Rattle.store.specs.declared.store.Store.{Store}
-use Rattle.store.specs.Stands.{Stands}
-use Rattle.store.specs.Promises.{ActsFrom}
+use Rattle.table_state.specs.declared.standing.Core.{Core}
+use Rattle.table_state.specs.Stands.{Stands}
+use Rattle.table_state.specs.Promises.{ActsFrom}
 use Rattle.commands.specs.Opening.{OpensToRead}
 use Rattle.commands.specs.Unless.{UnlessFrom}
 
 -- The dataset on a disk is opened to read, and what its root says is the result. Or that is refused.
 pub data FindsTable {D : Type 0} (state : D → DiskState) (options : WriteOptions) (old new : D) (result : Result Manifest Refusal) : Type 0 where
-  found : (store : Store D) (table : Manifest) → OpensToRead state old options (Ok store) → new ≡ store.vault.disk
+  found : (store : Core D) (table : Manifest) → OpensToRead state old options (Ok store) → new ≡ store.vault.disk
       → root_of table ≡ root_of store.manifest → result ≡ Ok table → FindsTable state options old new result
-  not_told : (store : Store D) → OpensToRead state old options (Ok store) → new ≡ store.vault.disk → result ≡ Err Memory
+  not_told : (store : Core D) → OpensToRead state old options (Ok store) → new ≡ store.vault.disk → result ≡ Err Memory
       → FindsTable state options old new result
   not_opened : (e : Refusal) → OpensToRead state old options (Err (new, e)) → result ≡ Err e → FindsTable state options old new result
 
@@ -32,14 +32,14 @@ pub record IsStill (root : Root) (options : WriteOptions) (s : State) : Type 0 w
 
 -- From the one state: where the table is the one for which rows were read, the store appends them, and its answer is the result. Where
 -- it has other columns or keys, that is refused Schema, and all is as it was.
-pub record AppendsFrom {D : Type 0} (state : D → DiskState) (root : Root) (options : WriteOptions) (rows : List ValueTrees) (old new : Store D)
+pub record AppendsFrom {D : Type 0} (state : D → DiskState) (root : Root) (options : WriteOptions) (rows : List ValueTrees) (old new : Core D)
     (result : Result ℕ Refusal) (s : State) : Type 0 where
   pub still : IsStill root options s → ActsFrom state old new (append rows) (answered done result) s
   pub other : (IsStill root options s → ⊥) → old.closed ≡ false → (result ≡ Err Schema) × (new ≡ old)
 
 -- on an honest disk, from each state that the store stands in: rows that were read for a table are appended; where a filter is given,
 -- unless some row satisfies it
-abbrev pub AppendsRows : {D : Type 0} → (D → DiskState) → Bool → Root → WriteOptions → List ValueTrees → Option (List ℕ) → Store D → Store D
+abbrev pub AppendsRows : {D : Type 0} → (D → DiskState) → Bool → Root → WriteOptions → List ValueTrees → Option (List ℕ) → Core D → Core D
     → Result ℕ Refusal → Type 0
 AppendsRows state texts root options rows None old new result =
     (state old.vault.disk).honest → (s : State) → Stands state old s → AppendsFrom state root options rows old new result s

@@ -14,7 +14,7 @@ use Rattle.schema.specs.Values.{ValueTrees}
 use Rattle.footer.specs.declared.options.WriteOptions.{WriteOptions}
 use Rattle.manifest.specs.Groups.{Root, root_of}
 use Rattle.manifest.specs.declared.description.Manifest.{Manifest}
-use Rattle.store.specs.declared.store.Store.{Store}
+use Rattle.table_state.specs.declared.standing.Core.{Core}
 use Rattle.dataset_words.specs.declared.call.Call.{Call}
 use Rattle.dataset_words.specs.declared.call.Task.{Task}
 use Rattle.dataset_words.specs.declared.call.Task.TheVariants.{Create, Ask, Change as ToChange, Look as LookAt, Run}
@@ -41,7 +41,7 @@ use Rattle.commands.specs.declared.watched.Watched.{Watched}
 -- What a question prints of the dataset on a disk, which is opened to read it; or its opening is refused, and nothing is printed.
 pub data Answers {D : Type 0} (state : D → DiskState) (call : Call) (question : Question) (before after : Option (List ℕ))
     (old new : D) (result : Result ⊤ Refusal) : Type 0 where
-  answered : (store asked : Store D) → OpensToRead state old call.options (Ok store) → PrintsAnswer state call.texts store asked question before after result
+  answered : (store asked : Core D) → OpensToRead state old call.options (Ok store) → PrintsAnswer state call.texts store asked question before after result
       → new ≡ asked.vault.disk → Answers state call question before after old new result
   not_opened : (e : Refusal) → OpensToRead state old call.options (Err (new, e)) → after ≡ before → result ≡ Err e
       → Answers state call question before after old new result
@@ -49,14 +49,14 @@ pub data Answers {D : Type 0} (state : D → DiskState) (call : Call) (question 
 -- What a sink gets of the dataset on a disk, which is opened to read it; or its opening is refused, and it gets nothing.
 pub data Gives {D : Type 0} (state : D → DiskState) (call : Call) (question : Question) (most : Option ℕ) (was is : Option (List (List ℕ)))
     (old new : D) (result : Result ⊤ Refusal) : Type 0 where
-  given : (store asked : Store D) → OpensToRead state old call.options (Ok store) → GivesAnswer state call.texts store asked question call.options most was is result
+  given : (store asked : Core D) → OpensToRead state old call.options (Ok store) → GivesAnswer state call.texts store asked question call.options most was is result
       → new ≡ asked.vault.disk → Gives state call question most was is old new result
   none_given : (e : Refusal) → OpensToRead state old call.options (Err (new, e)) → is ≡ was → result ≡ Err e → Gives state call question most was is old new result
 
 -- ---- changes
 
 -- the line of a disk that shows what it does is off the screen; the store is else as it was
-abbrev pub IsUnshown : {D S : Type 0} → Store (Watched D S) → Store (Watched D S) → Type 0
+abbrev pub IsUnshown : {D S : Type 0} → Core (Watched D S) → Core (Watched D S) → Type 0
 IsUnshown old new = (new ≡ record old { vault = new.vault }) × (new.vault.disk.disk ≡ old.vault.disk.disk)
 
 -- that a change is done is printed; one that is refused prints nothing
@@ -66,7 +66,7 @@ TellsDone (Ok rows) before after (Err e) = (e ≡ Memory) ⊎ (e ≡ Device)
 TellsDone (Err e) before after result = (result ≡ Err e) × (after ≡ before)
 
 -- what comes of the script of a call: all its calls are made, or those up to the first that is refused
-abbrev pub RunsCalls : {D : Type 0} → (D → DiskState) → Bool → Bool → Store D → Store D → List ℕ → Option (List ℕ) → Option (List ℕ) → Result ⊤ Refusal → Type 0
+abbrev pub RunsCalls : {D : Type 0} → (D → DiskState) → Bool → Bool → Core D → Core D → List ℕ → Option (List ℕ) → Option (List ℕ) → Result ⊤ Refusal → Type 0
 RunsCalls state false texts old new bytes before after result = RunsBytes state texts old new bytes before after result
 RunsCalls state true texts old new bytes before after result = RunsBytesToRefusal state texts old new bytes before after result
 
@@ -76,37 +76,37 @@ module _ {D S : Type 0} (state : D → DiskState) where
   state_within watched = state watched.disk
 
   -- A store is changed so, and what came of it is printed.
-  pub record Changes (Makes : Store (Watched D S) → Store (Watched D S) → Result ℕ Refusal → Type 0) (before after : Option (List ℕ))
-      (old new : Store (Watched D S)) (result : Result ⊤ Refusal) : Type 0 where
-    pub changed : Store (Watched D S)
+  pub record Changes (Makes : Core (Watched D S) → Core (Watched D S) → Result ℕ Refusal → Type 0) (before after : Option (List ℕ))
+      (old new : Core (Watched D S)) (result : Result ⊤ Refusal) : Type 0 where
+    pub changed : Core (Watched D S)
     pub done : Result ℕ Refusal
     pub makes : Makes old changed done
     pub unshown : IsUnshown changed new
     pub told : TellsDone done before after result
 
   -- a store is changed as a call asks for, with the bytes of the files that it names
-  abbrev pub ChangesAsAsked : Call → Change → List (List ℕ) → Option (List ℕ) → Option (List ℕ) → Store (Watched D S) → Store (Watched D S) → Result ⊤ Refusal
+  abbrev pub ChangesAsAsked : Call → Change → List (List ℕ) → Option (List ℕ) → Option (List ℕ) → Core (Watched D S) → Core (Watched D S) → Result ⊤ Refusal
       → Type 0
   ChangesAsAsked call change files before after old new result =
       Changes (λ from to done. MakesInStyle state_within call.keeps_style call.texts from to change files done) before after old new result
 
   -- rows that were read for a table are appended as a call asks for
-  abbrev pub ChangesByRows : Call → Option (List ℕ) → Root → List ValueTrees → Option (List ℕ) → Option (List ℕ) → Store (Watched D S) → Store (Watched D S)
+  abbrev pub ChangesByRows : Call → Option (List ℕ) → Root → List ValueTrees → Option (List ℕ) → Option (List ℕ) → Core (Watched D S) → Core (Watched D S)
       → Result ⊤ Refusal → Type 0
   ChangesByRows call unless root rows before after old new result =
       Changes (λ from to done. AppendsRows state_within call.texts root call.options rows unless from to done) before after old new result
 
   -- what a change or a script makes of a store; nothing else does
-  abbrev pub ChangesStore : Call → Task → List (List ℕ) → Option (List ℕ) → Option (List ℕ) → Store (Watched D S) → Store (Watched D S) → Result ⊤ Refusal → Type 0
+  abbrev pub ChangesStore : Call → Task → List (List ℕ) → Option (List ℕ) → Option (List ℕ) → Core (Watched D S) → Core (Watched D S) → Result ⊤ Refusal → Type 0
   ChangesStore call (ToChange change) files before after old new result = ChangesAsAsked call change files before after old new result
   ChangesStore call (Run script stops) files before after old new result = RunsCalls state_within stops call.texts old new (first_file files) before after result
   ChangesStore call _ files before after old new result = (new ≡ old) × (after ≡ before)
 
   -- What is made of the dataset on a disk: it is opened, keeps what is replaced, this comes of it, and it is cleaned. Or its opening is
   -- refused, and nothing is printed.
-  pub data ChangesDisk (options : WriteOptions) (Comes : Store (Watched D S) → Store (Watched D S) → Result ⊤ Refusal → Type 0)
+  pub data ChangesDisk (options : WriteOptions) (Comes : Core (Watched D S) → Core (Watched D S) → Result ⊤ Refusal → Type 0)
       (before after : Option (List ℕ)) (old new : Watched D S) (result : Result ⊤ Refusal) : Type 0 where
-    changed : (opened changed cleaned : Store (Watched D S)) → OpensToChange state_within old options (Ok opened)
+    changed : (opened changed cleaned : Core (Watched D S)) → OpensToChange state_within old options (Ok opened)
         → Comes (record opened { keeps = true }) changed result
         → MayCleanUp state_within changed cleaned → new ≡ cleaned.vault.disk → ChangesDisk options Comes before after old new result
     not_opened : (e : Refusal) → OpensToChange state_within old options (Err (new, e)) → after ≡ before → result ≡ Err e

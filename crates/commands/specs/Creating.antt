@@ -11,10 +11,10 @@ use Rattle.footer.specs.declared.options.WriteOptions.{WriteOptions}
 use Rattle.table.specs.Table.{empty_table}
 use Rattle.table.specs.State.{opened}
 use Rattle.jsonrows.specs.SchemaJson.{IsSchemaText}
-use Rattle.store.specs.declared.store.Store.{Store}
-use Rattle.store.specs.Spares.{HasRoom}
-use Rattle.store.specs.Stands.{Stands}
-use Rattle.store.specs.Opening.{AreNamedKeys, CanKey, HasNoRoot, LeavesNoneOr, IsCreatable, IsNotCreated}
+use Rattle.table_state.specs.declared.standing.Core.{Core}
+use Rattle.table_state.specs.Spares.{HasRoom}
+use Rattle.table_state.specs.Stands.{Stands}
+use Rattle.table_openings.specs.Opening.{AreNamedKeys, CanKey, HasNoRoot, LeavesNoneOr, IsCreatable, IsNotCreated}
 use Rattle.commands.specs.Places.{Known, StaysKnown, StaysBut, IsKeptFrom}
 
 -- nothing that any image has, or that an honest disk reads, changes
@@ -28,7 +28,7 @@ pub record CreatesOn {D : Type 0} (state : D → DiskState) (o : WriteOptions) (
     : Type 0 where
   -- a store stands on the empty table of this schema and these keys
   pub created : (state old).honest → (keys : List KeyColumn) → AreNamedKeys schema names keys → HasRoom keys (state old)
-      → OnOk result ((store : Store D) × (store.vault.disk ≡ new) × Stands state store (opened o (empty_table schema keys)))
+      → OnOk result ((store : Core D) × (store.vault.disk ≡ new) × Stands state store (opened o (empty_table schema keys)))
   -- a stop within it leaves no root or that table
   pub moments : (state old).honest → (keys : List KeyColumn) → AreNamedKeys schema names keys → HasRoom keys (state old) → HasNoRoot (state old)
       → LeavesNoneOr (empty_table schema keys) (state old) (state new)

@@ -12,9 +12,9 @@ use Rattle.table.specs.declared.answer.GroupInfo.{GroupInfo}
 use Rattle.manifest.specs.Groups.{Group, Root, root_of}
 use Rattle.manifest.specs.Root.{stored_of}
 use Rattle.jsonrows.specs.GroupColumns.{group_and_columns_json}
-use Rattle.store.specs.declared.store.Store.{Store}
-use Rattle.store.specs.Listing.{told_of, told_by}
-use Rattle.store.specs.Stands.{Stands}
+use Rattle.table_state.specs.declared.standing.Core.{Core}
+use Rattle.table_reads.specs.Listing.{told_of, told_by}
+use Rattle.table_state.specs.Stands.{Stands}
 use Rattle.commands.specs.Lines.{AreShownLines}
 
 -- what a store tells of a group, and the group as its root describes it
@@ -36,7 +36,7 @@ pub record AreGroupsTold (root : Root) (told : List Told) : Type 0 where
 
 -- On an honest disk, from each state that the store stands in: where the result is Ok a writer got the lines of the table's groups,
 -- each with what the store's root knows of its columns. (The columns are the leaves of the files, which have no key columns.)
-abbrev pub ListsColumns : {D T : Type 0} → (D → DiskState) → Bool → Store D → Option (List ℕ) → Option (List ℕ) → Result T Refusal → Type 0
+abbrev pub ListsColumns : {D T : Type 0} → (D → DiskState) → Bool → Core D → Option (List ℕ) → Option (List ℕ) → Result T Refusal → Type 0
 ListsColumns state texts store before after result = (state store.vault.disk).honest → (s : State) → Stands state store s
     → OnOk result ((told : List Told) × (printed : List ℕ) × AreGroupsTold (root_of store.manifest) told
     × (map (λ (t : Told). info_view t.0) told ≡ map summary s.table.groups)

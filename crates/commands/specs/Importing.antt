@@ -12,9 +12,9 @@ use Rattle.disk.specs.State.{State as DiskState}
 use Rattle.table.specs.State.{State}
 use Rattle.table.specs.Calls.{begin_append, stage, commit, abort, Answer, done, job, accepted, refused}
 use Rattle.table.specs.Views.{answered}
-use Rattle.store.specs.declared.store.Store.{Store}
-use Rattle.store.specs.Stands.{Stands}
-use Rattle.store.specs.Promises.{ActsFrom}
+use Rattle.table_state.specs.declared.standing.Core.{Core}
+use Rattle.table_state.specs.Stands.{Stands}
+use Rattle.table_state.specs.Promises.{ActsFrom}
 use Rattle.commands.specs.Querying.{ActsOn}
 use Rattle.commands.specs.Unless.{UnlessFrom}
 
@@ -29,7 +29,7 @@ MeanRows fs (file ∷ files) (rows ∷ others) = FileMeans file fs rows × MeanR
 MeanRows fs _ _ = ⊥
 
 -- From the one state the store stages, for a job, the rows of each file, in the order of the files; the table is as it was.
-pub record StagesFiles {D : Type 0} (state : D → DiskState) (old new : Store D) (n : ℕ) (files : List (List ℕ)) (s : State) : Type 0 where
+pub record StagesFiles {D : Type 0} (state : D → DiskState) (old new : Core D) (n : ℕ) (files : List (List ℕ)) (s : State) : Type 0 where
   pub rows : List (List ValueTrees)
   pub last : State
   pub mean : MeanRows s.table.schema files rows
@@ -44,7 +44,7 @@ pub data IsRefusedFile (fs : Fields) (file : List ℕ) (e : Refusal) : Type 0 wh
   other_columns : (gs : Fields) (rows : List ValueTrees) → FileMeans file gs rows → (gs ≡ fs → ⊥) → e ≡ Schema → IsRefusedFile fs file e
 
 -- From the one state a file is refused so, for a job: its bytes are, and no call is made; or the call that stages its rows is.
-pub record RefusesFile {D : Type 0} (state : D → DiskState) (old new : Store D) (n : ℕ) (file : List ℕ) (e : Refusal) (s : State) : Type 0 where
+pub record RefusesFile {D : Type 0} (state : D → DiskState) (old new : Core D) (n : ℕ) (file : List ℕ) (e : Refusal) (s : State) : Type 0 where
   pub last : State
   pub stands : Stands state new last
   pub table : last.table ≡ s.table
@@ -53,35 +53,35 @@ pub record RefusesFile {D : Type 0} (state : D → DiskState) (old new : Store D
 
 -- From the one state the store stages, for a job, the rows of the first of some files, and the next of them is the first that is refused,
 -- so; the table is as it was.
-pub record StopsAtFile {D : Type 0} (state : D → DiskState) (old new : Store D) (n : ℕ) (files : List (List ℕ)) (e : Refusal) (s : State) : Type 0 where
+pub record StopsAtFile {D : Type 0} (state : D → DiskState) (old new : Core D) (n : ℕ) (files : List (List ℕ)) (e : Refusal) (s : State) : Type 0 where
   pub before : List (List ℕ)
   pub file : List ℕ
   pub behind : List (List ℕ)
   pub joined : files ≡ before ++ file ∷ behind
-  pub mid : Store D
+  pub mid : Core D
   pub staged : StagesFiles state old mid n before s
   pub refuses : RefusesFile state mid new n file e staged.last
 
 -- From the one state none of the files comes in, for this refusal: the append is not opened; or it is opened, the first file that cannot
 -- be taken is refused so, and the append is ended, whatever that answers. The table is as it was.
-pub data ImportsNone {D : Type 0} (state : D → DiskState) (old new : Store D) (files : List (List ℕ)) (e : Refusal) (s : State) : Type 0 where
+pub data ImportsNone {D : Type 0} (state : D → DiskState) (old new : Core D) (files : List (List ℕ)) (e : Refusal) (s : State) : Type 0 where
   not_opened : (acts : ActsFrom state old new begin_append (refused e) s) → acts.after.table ≡ s.table → ImportsNone state old new files e s
-  not_staged : (mid late : Store D) (n : ℕ) (answer : Answer) (first : ActsFrom state old mid begin_append (job n) s)
+  not_staged : (mid late : Core D) (n : ℕ) (answer : Answer) (first : ActsFrom state old mid begin_append (job n) s)
       (stops : StopsAtFile state mid late n files e first.after) (ending : ActsFrom state late new (abort n) answer stops.refuses.last)
       → ending.after.table ≡ s.table → ImportsNone state old new files e s
 
 -- From the one state all of the files come in: an append is opened, the rows of each file are staged in the order of the files, and
 -- the append is committed, or its commit is refused. Or none of them comes in, and the refusal says why.
-pub data ImportsFrom {D : Type 0} (state : D → DiskState) (old new : Store D) (files : List (List ℕ)) (result : Result ℕ Refusal) (s : State) : Type 0 where
-  all_in : (mid late : Store D) (n : ℕ) (first : ActsFrom state old mid begin_append (job n) s) (staged : StagesFiles state mid late n files first.after)
+pub data ImportsFrom {D : Type 0} (state : D → DiskState) (old new : Core D) (files : List (List ℕ)) (result : Result ℕ Refusal) (s : State) : Type 0 where
+  all_in : (mid late : Core D) (n : ℕ) (first : ActsFrom state old mid begin_append (job n) s) (staged : StagesFiles state mid late n files first.after)
       → ActsFrom state late new (commit n) (answered done result) staged.last → ImportsFrom state old new files result s
   none_in : (e : Refusal) → result ≡ Err e → ImportsNone state old new files e s → ImportsFrom state old new files result s
 
 -- on an honest disk, from each state that the store stands in
-abbrev pub ImportsFiles : {D : Type 0} → (D → DiskState) → Store D → Store D → List (List ℕ) → Result ℕ Refusal → Type 0
+abbrev pub ImportsFiles : {D : Type 0} → (D → DiskState) → Core D → Core D → List (List ℕ) → Result ℕ Refusal → Type 0
 ImportsFiles state old new files result = (state old.vault.disk).honest → (s : State) → Stands state old s → ImportsFrom state old new files result s
 
 -- on an honest disk, from each state that the store stands in: the files come in unless some row satisfies the filter of a text
-abbrev pub ImportsUnless : {D : Type 0} → (D → DiskState) → Bool → Store D → Store D → List ℕ → List (List ℕ) → Result ℕ Refusal → Type 0
+abbrev pub ImportsUnless : {D : Type 0} → (D → DiskState) → Bool → Core D → Core D → List ℕ → List (List ℕ) → Result ℕ Refusal → Type 0
 ImportsUnless state texts old new text files result = (state old.vault.disk).honest → (s : State) → Stands state old s
     → UnlessFrom state texts old new text (λ mid t. ImportsFrom state mid new files result t) result s

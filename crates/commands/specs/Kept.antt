@@ -13,8 +13,8 @@ use Rattle.footer.specs.declared.options.WriteOptions.{WriteOptions}
 use Rattle.disk.specs.State.{State as DiskState}
 use Rattle.table.specs.Table.{Table}
 use Rattle.table.specs.State.{opened}
-use Rattle.store.specs.declared.store.Store.{Store}
-use Rattle.store.specs.Stands.{Stands}
+use Rattle.table_state.specs.declared.standing.Core.{Core}
+use Rattle.table_state.specs.Stands.{Stands}
 
 -- whether the encoding of this number is among these, where they are said
 abbrev pub is_said : ℤ → Option (List ℤ) → Bool
@@ -58,9 +58,9 @@ abbrev pub TellsWhichMayHold : List KeyColumn → List (List Test) → (Group �
 TellsWhichMayHold keys tests is = (g : Group) → IsTrue (is g) ↔ (RuledOut tests (places_of keys) g.key g.known → ⊥)
 
 -- a store that is as another one, but for the style in which it writes new groups
-abbrev pub IsRestyled : {D : Type 0} → Store D → Store D → Type 0
+abbrev pub IsRestyled : {D : Type 0} → Core D → Core D → Type 0
 IsRestyled old new = new ≡ record old { options = record old.options { style = new.options.style } }
 
 -- a store that stands as it was opened on a table still does, with the style that it then has
-abbrev pub StaysOpened : {D : Type 0} → (D → DiskState) → Store D → Store D → Type 0
+abbrev pub StaysOpened : {D : Type 0} → (D → DiskState) → Core D → Core D → Type 0
 StaysOpened state old new = (o : WriteOptions) (t : Table) → Stands state old (opened o t) → Stands state new (opened (record o { style = new.options.style }) t)

@@ -14,9 +14,9 @@ use Rattle.table.specs.Views.{answered, answer_view}
 use Rattle.table.specs.declared.answer.Answer.{Answer}
 use Rattle.jsonrows.specs.Filters.{IsFilterTextAs, IsRefusedFilterAs}
 use Rattle.jsonrows.specs.SchemaJson.{IsSchemaText}
-use Rattle.store.specs.declared.store.Store.{Store}
-use Rattle.store.specs.Stands.{Stands}
-use Rattle.store.specs.Promises.{ActsFrom}
+use Rattle.table_state.specs.declared.standing.Core.{Core}
+use Rattle.table_state.specs.Stands.{Stands}
+use Rattle.table_state.specs.Promises.{ActsFrom}
 use Rattle.store.specs.Running.{RunsFrom}
 use Rattle.commands.specs.Lines.{AreCallTexts, AreRefusedCalls, AreAnswerLines}
 
@@ -36,13 +36,13 @@ IsRefusedFilterOf texts leaves None e = ⊥
 
 -- From the one state: the store makes a call that was asked for, and its answer is the result; or what was asked for is
 -- refused, and the store is as it was.
-pub data MakesFrom {D : Type 0} (state : D → DiskState) (old new : Store D) (IsAsked : Fields → Call → Type 0) (IsRefused : Fields → Refusal → Type 0)
+pub data MakesFrom {D : Type 0} (state : D → DiskState) (old new : Core D) (IsAsked : Fields → Call → Type 0) (IsRefused : Fields → Refusal → Type 0)
     (result : Result ℕ Refusal) (s : State) : Type 0 where
   made : (call : Call) → IsAsked s.table.schema call → ActsFrom state old new call (answered done result) s → MakesFrom state old new IsAsked IsRefused result s
   not_made : (e : Refusal) → IsRefused s.table.schema e → result ≡ Err e → new ≡ old → MakesFrom state old new IsAsked IsRefused result s
 
 -- on an honest disk, from each state that the store stands in
-abbrev pub Makes : {D : Type 0} → (D → DiskState) → Store D → Store D → (Fields → Call → Type 0) → (Fields → Refusal → Type 0) → Result ℕ Refusal → Type 0
+abbrev pub Makes : {D : Type 0} → (D → DiskState) → Core D → Core D → (Fields → Call → Type 0) → (Fields → Refusal → Type 0) → Result ℕ Refusal → Type 0
 Makes state old new IsAsked IsRefused result = (state old.vault.disk).honest → (s : State) → Stands state old s → MakesFrom state old new IsAsked IsRefused result s
 
 -- the rows that satisfy the filter of a text are to be removed
@@ -57,26 +57,26 @@ AsksColumn text fs call = (columns : Fields) × IsSchemaText text columns × (ca
 
 -- From the one state: the store opens a rewrite of these groups, and commits it; or is refused one of these; or no groups are
 -- named, and nothing is done.
-pub data RewritesFrom {D : Type 0} (state : D → DiskState) (old new : Store D) (numbers : List ℕ) (result : Result ℕ Refusal) (s : State) : Type 0 where
+pub data RewritesFrom {D : Type 0} (state : D → DiskState) (old new : Core D) (numbers : List ℕ) (result : Result ℕ Refusal) (s : State) : Type 0 where
   none_named : numbers ≡ [] → result ≡ Ok 0 → new ≡ old → RewritesFrom state old new numbers result s
   not_begun : (e : Refusal) → result ≡ Err e → ActsFrom state old new (begin_rewrite numbers) (refused_answer e) s → RewritesFrom state old new numbers result s
-  begun : (mid : Store D) (n : ℕ) (first : ActsFrom state old mid (begin_rewrite numbers) (job n) s)
+  begun : (mid : Core D) (n : ℕ) (first : ActsFrom state old mid (begin_rewrite numbers) (job n) s)
       → ActsFrom state mid new (commit n) (answered done result) first.after
       → RewritesFrom state old new numbers result s
 
 -- on an honest disk, from each state that the store stands in: the groups of these numbers are rewritten, or the rewrite is refused
-abbrev pub Rewrites : {D : Type 0} → (D → DiskState) → Store D → Store D → List ℕ → Result ℕ Refusal → Type 0
+abbrev pub Rewrites : {D : Type 0} → (D → DiskState) → Core D → Core D → List ℕ → Result ℕ Refusal → Type 0
 Rewrites state old new numbers result = (state old.vault.disk).honest → (s : State) → Stands state old s → RewritesFrom state old new numbers result s
 
 -- From the one state: the store plans which groups to rewrite, and rewrites them; or is refused the plan, and is as it was.
-pub data RewritesPlannedFrom {D : Type 0} (state : D → DiskState) (old new : Store D) (min_rows : ℕ) (result : Result ℕ Refusal) (s : State) : Type 0 where
+pub data RewritesPlannedFrom {D : Type 0} (state : D → DiskState) (old new : Core D) (min_rows : ℕ) (result : Result ℕ Refusal) (s : State) : Type 0 where
   not_planned : (e : Refusal) → result ≡ Err e → new ≡ old → ActsFrom state old old (plan_rewrite min_rows) (refused_answer e) s
       → RewritesPlannedFrom state old new min_rows result s
   planned_so : (numbers : List ℕ) → ActsFrom state old old (plan_rewrite min_rows) (planned numbers) s → RewritesFrom state old new numbers result s
       → RewritesPlannedFrom state old new min_rows result s
 
 -- on an honest disk, from each state that the store stands in: the groups that the store plans are rewritten, or that is refused
-abbrev pub RewritesPlanned : {D : Type 0} → (D → DiskState) → Store D → Store D → ℕ → Result ℕ Refusal → Type 0
+abbrev pub RewritesPlanned : {D : Type 0} → (D → DiskState) → Core D → Core D → ℕ → Result ℕ Refusal → Type 0
 RewritesPlanned state old new min_rows result = (state old.vault.disk).honest → (s : State) → Stands state old s
     → RewritesPlannedFrom state old new min_rows result s
 
@@ -84,7 +84,7 @@ RewritesPlanned state old new min_rows result = (state old.vault.disk).honest �
 
 -- From the one state: the store makes the calls of a text, one of each line; and where the result is Ok a writer got the lines of
 -- their answers, over the schema that the table has then. Or the text is refused, and the store and the writer are as they were.
-pub data RunsScriptFrom {D T : Type 0} (state : D → DiskState) (texts : Bool) (old new : Store D) (text : List ℕ) (before after : Option (List ℕ)) (result : Result T Refusal)
+pub data RunsScriptFrom {D T : Type 0} (state : D → DiskState) (texts : Bool) (old new : Core D) (text : List ℕ) (before after : Option (List ℕ)) (result : Result T Refusal)
     (s : State) : Type 0 where
   ran : (calls : List Call) (last : Fields) (answers : List Answer) → AreCallTexts texts s.table.schema (lines text) calls last
       → (runs : RunsFrom state old new calls (map answer_view answers) s)
@@ -94,6 +94,6 @@ pub data RunsScriptFrom {D T : Type 0} (state : D → DiskState) (texts : Bool) 
       → RunsScriptFrom state texts old new text before after result s
 
 -- on an honest disk, from each state that the store stands in: the calls of a text are made and their answers printed, or it is refused
-abbrev pub RunsScript : {D T : Type 0} → (D → DiskState) → Bool → Store D → Store D → List ℕ → Option (List ℕ) → Option (List ℕ) → Result T Refusal → Type 0
+abbrev pub RunsScript : {D T : Type 0} → (D → DiskState) → Bool → Core D → Core D → List ℕ → Option (List ℕ) → Option (List ℕ) → Result T Refusal → Type 0
 RunsScript state texts old new text before after result = (state old.vault.disk).honest → (s : State) → Stands state old s
     → RunsScriptFrom state texts old new text before after result s

@@ -11,15 +11,15 @@ use Rattle.manifest.specs.Groups.{root_of}
 use Rattle.recovery.specs.Sound.{IsSound}
 use Rattle.recovery.specs.Opening.{Cleans}
 use Rattle.table.specs.State.{State}
-use Rattle.store.specs.declared.store.Store.{Store}
-use Rattle.store.specs.Stands.{Shows}
-use Rattle.store.specs.Cleaning.{Clears}
-use Rattle.store.specs.Opening.{disk_of, HasRoomForAll, LeavesTables, IsOpened, IsNotOpened, LeavesAllOrCleans}
+use Rattle.table_state.specs.declared.standing.Core.{Core}
+use Rattle.table_state.specs.Stands.{Shows}
+use Rattle.table_commits.specs.Cleaning.{Clears}
+use Rattle.table_openings.specs.Opening.{disk_of, HasRoomForAll, LeavesTables, IsOpened, IsNotOpened, LeavesAllOrCleans}
 
 module _ {D : Type 0} (state : D → DiskState) where
   -- What an opening promises, whichever it is: on an honest disk that is sound and has room it is refused only for memory, for a disk that
   -- failed, and for options out of range, and else the store stands as it is opened on a table that a stop could have left.
-  pub record Opens (disk : D) (o : WriteOptions) (result : Result (Store D) (D × Refusal)) : Type 0 where
+  pub record Opens (disk : D) (o : WriteOptions) (result : Result (Core D) (D × Refusal)) : Type 0 where
     pub found : (state disk).honest → IsSound (state disk) → HasRoomForAll (state disk) → IfOk result (IsOpened state (state disk) o)
     pub moments : (state disk).honest → IsSound (state disk) → HasRoomForAll (state disk) → LeavesTables (state disk) (state (disk_of result))
     pub sound : (state disk).honest → IsSound (state disk) → HasRoomForAll (state disk) → IsSound (state (disk_of result))
@@ -35,23 +35,23 @@ module _ {D : Type 0} (state : D → DiskState) where
     pub honest : (state disk).honest ↔ (state (disk_of result)).honest
 
   -- what an opening to read promises: nothing that any image has, or that the disk reads, changes
-  pub record OpensToRead (disk : D) (o : WriteOptions) (result : Result (Store D) (D × Refusal)) : Type 0 where
+  pub record OpensToRead (disk : D) (o : WriteOptions) (result : Result (Core D) (D × Refusal)) : Type 0 where
     pub opens : Opens disk o result
     pub unchanged : (state disk).honest → LeavesAll (state disk) (state (disk_of result))
 
   -- what an opening promises that removes what the root does not name
-  pub record OpensAndCleans (disk : D) (o : WriteOptions) (result : Result (Store D) (D × Refusal)) : Type 0 where
+  pub record OpensAndCleans (disk : D) (o : WriteOptions) (result : Result (Core D) (D × Refusal)) : Type 0 where
     pub opens : Opens disk o result
     pub unchanged : (state disk).honest → IfErr result (λ e. LeavesAllOrCleans (state disk) (state e.0) e.1)
     pub removes : (state disk).honest → IfOk result (λ store. Cleans (root_of store.manifest) (state disk) (state store.vault.disk))
 
   -- what an opening to change a dataset promises: what is not needed is removed, or it is not
-  abbrev pub OpensToChange : D → WriteOptions → Result (Store D) (D × Refusal) → Type 0
+  abbrev pub OpensToChange : D → WriteOptions → Result (Core D) (D × Refusal) → Type 0
   OpensToChange disk o result = OpensToRead disk o result ⊎ OpensAndCleans disk o result
 
   -- what the cleaning of a store promises: it shows the state that it showed, a stop at any moment leaves that state's table, and other
   -- files are left alone
-  pub record CleansUp (old new : Store D) : Type 0 where
+  pub record CleansUp (old new : Core D) : Type 0 where
     pub clears : (state old.vault.disk).honest → (s : State) → Shows state old s → s.closed ≡ false → Clears state old new s
     pub same : new ≡ record old { vault = new.vault; snapshots = new.snapshots }
     pub removes : (state old.vault.disk).honest → old.closed ≡ false → old.jobs.items ≡ [] → old.cursors.items ≡ []
@@ -60,5 +60,5 @@ module _ {D : Type 0} (state : D → DiskState) where
     pub honest : (state old.vault.disk).honest ↔ (state new.vault.disk).honest
 
   -- a store is cleaned at the end, or is left as it is
-  abbrev pub MayCleanUp : Store D → Store D → Type 0
+  abbrev pub MayCleanUp : Core D → Core D → Type 0
   MayCleanUp old new = (new ≡ old) ⊎ CleansUp old new

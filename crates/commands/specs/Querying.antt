@@ -20,9 +20,9 @@ use Rattle.table.specs.State.{State}
 use Rattle.table.specs.Views.{info_view}
 use Rattle.table.specs.Calls.{Call, query, fetch, close, groups, count, Answer}
 use Rattle.table.specs.declared.answer.GroupInfo.{GroupInfo}
-use Rattle.store.specs.declared.store.Store.{Store}
-use Rattle.store.specs.Stands.{Stands}
-use Rattle.store.specs.Promises.{ActsFrom}
+use Rattle.table_state.specs.declared.standing.Core.{Core}
+use Rattle.table_state.specs.Stands.{Stands}
+use Rattle.table_state.specs.Promises.{ActsFrom}
 use Rattle.commands.specs.Lines.{AreGroupLines}
 use Rattle.commands.specs.Making.{IsAskedFilter, IsRefusedFilterOf}
 
@@ -63,15 +63,15 @@ only_reads _ = false
 
 -- The store makes these calls, one after another, with these answers, each as a single call acts. They lead from the one state to
 -- the last.
-abbrev pub ActsOn : {D : Type 0} → (D → DiskState) → Store D → List Call → List Answer → Store D → State → State → Type 0
+abbrev pub ActsOn : {D : Type 0} → (D → DiskState) → Core D → List Call → List Answer → Core D → State → State → Type 0
 ActsOn state old [] [] new s last = (new ≡ old) × (last ≡ s)
-ActsOn {D} state old (call ∷ calls) (answer ∷ answers) new s last = (mid : Store D) × (acts : ActsFrom state old mid call answer s)
+ActsOn {D} state old (call ∷ calls) (answer ∷ answers) new s last = (mid : Core D) × (acts : ActsFrom state old mid call answer s)
     × ActsOn state mid calls answers new acts.after last
 ActsOn state old [] (answer ∷ answers) new s last = ⊥
 ActsOn state old (call ∷ calls) [] new s last = ⊥
 
 -- From the one state the store makes some calls, each of which only reads.
-pub record OnlyReads {D : Type 0} (state : D → DiskState) (old new : Store D) (s : State) : Type 0 where
+pub record OnlyReads {D : Type 0} (state : D → DiskState) (old new : Core D) (s : State) : Type 0 where
   pub calls : List Call
   pub answers : List Answer
   pub last : State
@@ -80,7 +80,7 @@ pub record OnlyReads {D : Type 0} (state : D → DiskState) (old new : Store D) 
 
 -- From the one state: a filter is asked for, the store makes calls that only read, and where the result is Ok a writer got what is
 -- said of that filter. Or the filter is refused, and neither the store nor the writer changed.
-pub data ReadsFrom {D T : Type 0} (state : D → DiskState) (texts : Bool) (old new : Store D) (asked : Option (List ℕ)) (Prints : Filter → Type 0) (Unchanged : Type 0)
+pub data ReadsFrom {D T : Type 0} (state : D → DiskState) (texts : Bool) (old new : Core D) (asked : Option (List ℕ)) (Prints : Filter → Type 0) (Unchanged : Type 0)
     (result : Result T Refusal) (s : State) : Type 0 where
   read : (terms : Filter) → IsAskedFilter texts (leaves_of s.table.schema) asked terms → OnlyReads state old new s → OnOk result (Prints terms)
       → ReadsFrom state texts old new asked Prints Unchanged result s
@@ -88,11 +88,11 @@ pub data ReadsFrom {D T : Type 0} (state : D → DiskState) (texts : Bool) (old 
       → ReadsFrom state texts old new asked Prints Unchanged result s
 
 -- on an honest disk, from each state that the store stands in; what is printed is told of that state's table
-abbrev pub Reads : {D T : Type 0} → (D → DiskState) → Bool → Store D → Store D → Option (List ℕ) → (Filter → Table → Type 0) → Type 0 → Result T Refusal → Type 0
+abbrev pub Reads : {D T : Type 0} → (D → DiskState) → Bool → Core D → Core D → Option (List ℕ) → (Filter → Table → Type 0) → Type 0 → Result T Refusal → Type 0
 Reads state texts old new asked Prints Unchanged result = (state old.vault.disk).honest → (s : State) → Stands state old s
     → ReadsFrom state texts old new asked (λ terms. Prints terms s.table) Unchanged result s
 
 -- on an honest disk, from each state that the store stands in: where the result is Ok a writer got the lines of the table's groups
-abbrev pub ListsGroups : {D T : Type 0} → (D → DiskState) → Store D → Option (List ℕ) → Option (List ℕ) → Result T Refusal → Type 0
+abbrev pub ListsGroups : {D T : Type 0} → (D → DiskState) → Core D → Option (List ℕ) → Option (List ℕ) → Result T Refusal → Type 0
 ListsGroups state store before after result = (state store.vault.disk).honest → (s : State) → Stands state store s
     → OnOk result ((infos : List GroupInfo) × (printed : List ℕ) × (map info_view infos ≡ map summary s.table.groups) × AreGroupLines infos printed × Appends before after printed)

@@ -12,8 +12,8 @@ use Rattle.table.specs.State.{State}
 use Rattle.table.specs.Calls.{Call, Answer, refused}
 use Rattle.table.specs.Views.{answer_view}
 use Rattle.table.specs.declared.answer.Answer.{Answer as CodeAnswer}
-use Rattle.store.specs.declared.store.Store.{Store}
-use Rattle.store.specs.Stands.{Stands}
+use Rattle.table_state.specs.declared.standing.Core.{Core}
+use Rattle.table_state.specs.Stands.{Stands}
 use Rattle.store.specs.Running.{RunsFrom}
 use Rattle.commands.specs.Lines.{AreCallTexts, AreRefusedCalls, AreAnswerLines}
 use Rattle.commands.specs.declared.stopping.Stop.{Stop}
@@ -39,14 +39,14 @@ StopsAt calls answers (Some stop) = (done : List Answer) × AreDone done × (sto
     × ((answers ≡ done ++ refused stop.refusal ∷ []) ⊎ ((answers ≡ done) × (stop.refusal ≡ Memory) × (length done < calls)))
 
 -- From the one state the store makes the first of these calls, up to and with the first that is refused.
-pub record MakesToRefusalFrom {D : Type 0} (state : D → DiskState) (old new : Store D) (calls : List Call) (answers : List Answer) (s : State) : Type 0 where
+pub record MakesToRefusalFrom {D : Type 0} (state : D → DiskState) (old new : Core D) (calls : List Call) (answers : List Answer) (s : State) : Type 0 where
   pub made : List Call
   pub left : List Call
   pub joined : calls ≡ made ++ left
   pub runs : RunsFrom state old new made answers s
 
 -- on an honest disk, from each state that the store stands in
-abbrev pub MakesToRefusal : {D : Type 0} → (D → DiskState) → Store D → Store D → List Call → List Answer → Type 0
+abbrev pub MakesToRefusal : {D : Type 0} → (D → DiskState) → Core D → Core D → List Call → List Answer → Type 0
 MakesToRefusal state old new calls answers = (state old.vault.disk).honest → (s : State) → Stands state old s
     → MakesToRefusalFrom state old new calls answers s
 
@@ -54,7 +54,7 @@ MakesToRefusal state old new calls answers = (state old.vault.disk).honest → (
 -- after one that is refused. Where the result is Ok it says where they stopped, and a writer got the lines of the answers, over the
 -- schema that the table has then. Or the text is refused, and the store and the writer are as they were.
 pub data RunsToRefusalFrom {D : Type 0} (state : D → DiskState) (texts : Bool)
-    (old new : Store D) (text : List ℕ) (before after : Option (List ℕ)) (result : Result (Option Stop) Refusal) (s : State) : Type 0 where
+    (old new : Core D) (text : List ℕ) (before after : Option (List ℕ)) (result : Result (Option Stop) Refusal) (s : State) : Type 0 where
   ran_to : (made left : List Call) (last : Fields) (answers : List CodeAnswer) → AreCallTexts texts s.table.schema (lines text) (made ++ left) last
       → (runs : RunsFrom state old new made (map answer_view answers) s) → EndAtRefusal answers
       → IfOk result (λ stop. StopsAt (length (made ++ left)) (map answer_view answers) stop × ((printed : List ℕ)
@@ -65,7 +65,7 @@ pub data RunsToRefusalFrom {D : Type 0} (state : D → DiskState) (texts : Bool)
 
 -- on an honest disk, from each state that the store stands in: the calls of a text are made up to the first that is refused, and their
 -- answers printed, or the text is refused
-abbrev pub RunsToRefusal : {D : Type 0} → (D → DiskState) → Bool → Store D → Store D → List ℕ → Option (List ℕ) → Option (List ℕ)
+abbrev pub RunsToRefusal : {D : Type 0} → (D → DiskState) → Bool → Core D → Core D → List ℕ → Option (List ℕ) → Option (List ℕ)
     → Result (Option Stop) Refusal → Type 0
 RunsToRefusal state texts old new text before after result = (state old.vault.disk).honest → (s : State) → Stands state old s
     → RunsToRefusalFrom state texts old new text before after result s

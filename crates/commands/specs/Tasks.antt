@@ -25,9 +25,9 @@ use Rattle.table.specs.Views.{answered}
 use Rattle.jsonrows.specs.Filters.{IsRefusedFilterAs}
 use Rattle.jsonrows.specs.SchemaJson.{IsRefusedSchema}
 use Rattle.jsonrows.specs.SchemaPrinted.{PrintsFields}
-use Rattle.store.specs.declared.store.Store.{Store}
-use Rattle.store.specs.Stands.{Stands}
-use Rattle.store.specs.Promises.{Acts}
+use Rattle.table_state.specs.declared.standing.Core.{Core}
+use Rattle.table_state.specs.Stands.{Stands}
+use Rattle.table_state.specs.Promises.{Acts}
 use Rattle.commands.specs.Making.{Makes, AsksRemove, AsksColumn, Rewrites, RewritesPlanned, RunsScript}
 use Rattle.commands.specs.Querying.{Reads, query_lines, ListsGroups}
 use Rattle.commands.specs.GroupColumns.{ListsColumns}
@@ -66,29 +66,29 @@ asked_lines texts None terms columns t = query_lines texts terms columns t
 asked_lines texts (Some limit) terms columns t = first_lines texts limit terms columns t
 
 -- the lines of a query are printed, and the store is only read
-abbrev pub PrintsQuery : {D T : Type 0} → (D → DiskState) → Bool → Store D → Store D → Option (List ℕ) → Columns → Option ℕ → Option (List ℕ) → Option (List ℕ)
+abbrev pub PrintsQuery : {D T : Type 0} → (D → DiskState) → Bool → Core D → Core D → Option (List ℕ) → Columns → Option ℕ → Option (List ℕ) → Option (List ℕ)
     → Result T Refusal → Type 0
 PrintsQuery state texts old new asked columns limit before after result =
     Reads state texts old new asked (λ terms table. Appends before after (asked_lines texts limit terms columns table)) (after ≡ before) result
 
 -- it is printed how many rows satisfy, and the store is only read
-abbrev pub PrintsCount : {D T : Type 0} → (D → DiskState) → Bool → Store D → Store D → Option (List ℕ) → Option (List ℕ) → Option (List ℕ)
+abbrev pub PrintsCount : {D T : Type 0} → (D → DiskState) → Bool → Core D → Core D → Option (List ℕ) → Option (List ℕ) → Option (List ℕ)
     → Result T Refusal → Type 0
 PrintsCount state texts old new asked before after result =
     Reads state texts old new asked (λ terms table. Appends before after (decimal (row_count terms table) ++ codes "\n")) (after ≡ before) result
 
 -- the groups are printed, with what is known of their columns or without, and the store is as it was
-abbrev pub PrintsGroups : {D T : Type 0} → (D → DiskState) → Bool → Bool → Store D → Store D → Option (List ℕ) → Option (List ℕ) → Result T Refusal → Type 0
+abbrev pub PrintsGroups : {D T : Type 0} → (D → DiskState) → Bool → Bool → Core D → Core D → Option (List ℕ) → Option (List ℕ) → Result T Refusal → Type 0
 PrintsGroups state texts true old new before after result = ListsColumns state texts old before after result × (new ≡ old)
 PrintsGroups state texts false old new before after result = ListsGroups state old before after result × (new ≡ old)
 
 -- the schema is printed, and the store is as it was
-abbrev pub PrintsSchema : {D T : Type 0} → (D → DiskState) → Store D → Store D → Option (List ℕ) → Option (List ℕ) → Result T Refusal → Type 0
+abbrev pub PrintsSchema : {D T : Type 0} → (D → DiskState) → Core D → Core D → Option (List ℕ) → Option (List ℕ) → Result T Refusal → Type 0
 PrintsSchema state old new before after result = ((s : State) → Stands state old s
     → OnOk result ((ds : Items) × PrintsFields s.table.schema ds × Appends before after (compact_text (array ds) ++ 10 ∷ []))) × (new ≡ old)
 
 -- what a question asks for is printed
-abbrev pub PrintsAnswer : {D T : Type 0} → (D → DiskState) → Bool → Store D → Store D → Question → Option (List ℕ) → Option (List ℕ) → Result T Refusal → Type 0
+abbrev pub PrintsAnswer : {D T : Type 0} → (D → DiskState) → Bool → Core D → Core D → Question → Option (List ℕ) → Option (List ℕ) → Result T Refusal → Type 0
 PrintsAnswer state texts old new (Query filter columns limit) before after result =
     PrintsQuery state texts old new (lent_text filter) (columns_named (lent_texts columns.items)) limit before after result
 PrintsAnswer state texts old new (Count filter) before after result = PrintsCount state texts old new (lent_text filter) before after result
@@ -96,13 +96,13 @@ PrintsAnswer state texts old new (Groups stats) before after result = PrintsGrou
 PrintsAnswer state texts old new Schema before after result = PrintsSchema state old new before after result
 
 -- a sink gets files of the rows that a query asks for, and the store is only read
-abbrev pub GivesQuery : {D T : Type 0} → (D → DiskState) → Bool → Store D → Store D → Option (List ℕ) → Columns → Option ℕ → WriteOptions → Option ℕ
+abbrev pub GivesQuery : {D T : Type 0} → (D → DiskState) → Bool → Core D → Core D → Option (List ℕ) → Columns → Option ℕ → WriteOptions → Option ℕ
     → Option (List (List ℕ)) → Option (List (List ℕ)) → Result T Refusal → Type 0
 GivesQuery state texts old new asked columns limit options most was is result =
     Reads state texts old new asked (λ terms table. GotQueryFiles options terms columns limit most table was is) (is ≡ was) result
 
 -- A sink gets files of what a question asks for. Only a query has files; another question is refused Script, and all is as it was.
-abbrev pub GivesAnswer : {D T : Type 0} → (D → DiskState) → Bool → Store D → Store D → Question → WriteOptions → Option ℕ
+abbrev pub GivesAnswer : {D T : Type 0} → (D → DiskState) → Bool → Core D → Core D → Question → WriteOptions → Option ℕ
     → Option (List (List ℕ)) → Option (List (List ℕ)) → Result T Refusal → Type 0
 GivesAnswer state texts old new (Query filter columns limit) options most was is result =
     GivesQuery state texts old new (lent_text filter) (columns_named (lent_texts columns.items)) limit options most was is result
@@ -116,29 +116,29 @@ first_file [] = []
 first_file (file ∷ files) = file
 
 -- a call that is asked for is made, or is refused; where a filter is given, unless some row satisfies it
-abbrev pub MakesAsked : {D : Type 0} → (D → DiskState) → Bool → Store D → Store D → Option (List ℕ) → (Fields → Call → Type 0) → (Fields → Refusal → Type 0)
+abbrev pub MakesAsked : {D : Type 0} → (D → DiskState) → Bool → Core D → Core D → Option (List ℕ) → (Fields → Call → Type 0) → (Fields → Refusal → Type 0)
     → Result ℕ Refusal → Type 0
 MakesAsked state texts old new None IsAsked IsRefused result = Makes state old new IsAsked IsRefused result
 MakesAsked state texts old new (Some text) IsAsked IsRefused result = MakesUnless state texts old new text IsAsked IsRefused result
 
 -- the column of bytes comes in
-abbrev pub AddsColumn : {D : Type 0} → (D → DiskState) → Store D → Store D → List ℕ → Result ℕ Refusal → Type 0
+abbrev pub AddsColumn : {D : Type 0} → (D → DiskState) → Core D → Core D → List ℕ → Result ℕ Refusal → Type 0
 AddsColumn state old new bytes result = IfText bytes (Makes state old new (AsksColumn bytes) (λ fs. IsRefusedSchema bytes) result) (new ≡ old) result
 
 -- files come in by one append; where a filter is given, unless some row satisfies it
-abbrev pub ImportsSeveral : {D : Type 0} → (D → DiskState) → Bool → Store D → Store D → Option (List ℕ) → List (List ℕ) → Result ℕ Refusal → Type 0
+abbrev pub ImportsSeveral : {D : Type 0} → (D → DiskState) → Bool → Core D → Core D → Option (List ℕ) → List (List ℕ) → Result ℕ Refusal → Type 0
 ImportsSeveral state texts old new None files result = ImportsFiles state old new files result
 ImportsSeveral state texts old new (Some text) files result = ImportsUnless state texts old new text files result
 
 -- a single file comes in by one call, several by one append
-abbrev pub ImportsAsked : {D : Type 0} → (D → DiskState) → Bool → Store D → Store D → Option (List ℕ) → List (List ℕ) → Result ℕ Refusal → Type 0
+abbrev pub ImportsAsked : {D : Type 0} → (D → DiskState) → Bool → Core D → Core D → Option (List ℕ) → List (List ℕ) → Result ℕ Refusal → Type 0
 ImportsAsked state texts old new unless [] result = MakesAsked state texts old new unless (AsksImport []) (λ fs e. ⊥) result
 ImportsAsked state texts old new unless (file ∷ []) result = MakesAsked state texts old new unless (AsksImport file) (λ fs e. ⊥) result
 ImportsAsked state texts old new unless (file ∷ other ∷ files) result = ImportsSeveral state texts old new unless (file ∷ other ∷ files) result
 
 -- What a change asks for is made, with the bytes of the files that it names. Of an append nothing is: its rows come in by themselves,
 -- as `AppendsRows` says.
-abbrev pub MakesChange : {D : Type 0} → (D → DiskState) → Bool → Store D → Store D → Change → List (List ℕ) → Result ℕ Refusal → Type 0
+abbrev pub MakesChange : {D : Type 0} → (D → DiskState) → Bool → Core D → Core D → Change → List (List ℕ) → Result ℕ Refusal → Type 0
 MakesChange state texts old new (Append path unless) files result = (result ≡ Ok 0) × (new ≡ old)
 MakesChange state texts old new (Import paths unless) files result = ImportsAsked state texts old new (lent_text unless) files result
 MakesChange state texts old new (AddColumn path) files result = AddsColumn state old new (first_file files) result
@@ -151,21 +151,21 @@ MakesChange state texts old new RewriteAll files result = RewritesAllGroups stat
 
 -- What a change asks for is made of the store as it is; or, where it keeps the style, of the store with another style. Or memory ran
 -- out before, and all is as it was.
-pub data MakesInStyle {D : Type 0} (state : D → DiskState) (keeps texts : Bool) (old new : Store D)
+pub data MakesInStyle {D : Type 0} (state : D → DiskState) (keeps texts : Bool) (old new : Core D)
     (change : Change) (files : List (List ℕ)) (result : Result ℕ Refusal) : Type 0 where
-  in_style : (begun : Store D) → IsRestyled old begun → StaysOpened state old begun → (keeps ≡ false → begun ≡ old)
+  in_style : (begun : Core D) → IsRestyled old begun → StaysOpened state old begun → (keeps ≡ false → begun ≡ old)
       → MakesChange state texts begun new change files result → MakesInStyle state keeps texts old new change files result
   no_style : result ≡ Err Memory → new ≡ old → MakesInStyle state keeps texts old new change files result
 
 -- ---- scripts
 
 -- the calls of bytes that are a text are made, and their answers are printed
-abbrev pub RunsBytes : {D T : Type 0} → (D → DiskState) → Bool → Store D → Store D → List ℕ → Option (List ℕ) → Option (List ℕ) → Result T Refusal → Type 0
+abbrev pub RunsBytes : {D T : Type 0} → (D → DiskState) → Bool → Core D → Core D → List ℕ → Option (List ℕ) → Option (List ℕ) → Result T Refusal → Type 0
 RunsBytes state texts old new bytes before after result =
     IfText bytes (RunsScript state texts old new bytes before after result) ((new ≡ old) × (after ≡ before)) result
 
 -- the calls of bytes that are a text are made up to the first that is refused, and their answers are printed
-abbrev pub StopsInBytes : {D : Type 0} → (D → DiskState) → Bool → Store D → Store D → List ℕ → Option (List ℕ) → Option (List ℕ)
+abbrev pub StopsInBytes : {D : Type 0} → (D → DiskState) → Bool → Core D → Core D → List ℕ → Option (List ℕ) → Option (List ℕ)
     → Result (Option Stop) Refusal → Type 0
 StopsInBytes state texts old new bytes before after result =
     IfText bytes (RunsToRefusal state texts old new bytes before after result) ((new ≡ old) × (after ≡ before)) result
@@ -177,7 +177,7 @@ IsEndOf (Ok (Some stop)) result = result ≡ Err stop.refusal
 IsEndOf (Err e) result = result ≡ Err e
 
 -- the calls of bytes that are a text are made up to the first that is refused, which is what is returned
-abbrev pub RunsBytesToRefusal : {D T : Type 0} → (D → DiskState) → Bool → Store D → Store D → List ℕ → Option (List ℕ) → Option (List ℕ)
+abbrev pub RunsBytesToRefusal : {D T : Type 0} → (D → DiskState) → Bool → Core D → Core D → List ℕ → Option (List ℕ) → Option (List ℕ)
     → Result T Refusal → Type 0
 RunsBytesToRefusal state texts old new bytes before after result =
     (stopped : Result (Option Stop) Refusal) × StopsInBytes state texts old new bytes before after stopped × IsEndOf stopped result

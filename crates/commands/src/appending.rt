@@ -5,7 +5,7 @@ ghost use Rattle.schema.specs.Values.{ValueTrees};
 ghost use Rattle.footer.specs.declared.options.WriteOptions.{WriteOptions};
 ghost use Rattle.manifest.specs.Groups.{Root, root_of};
 ghost use Rattle.gather.specs.GatheredRows.{holds};
-ghost use Rattle.store.specs.Gathering.{AreGatheredFor};
+ghost use Rattle.table_commits.specs.Gathering.{AreGatheredFor};
 ghost use Rattle.commands.specs.Appending.{AppendsRows, FindsTable};
 ghost use Rattle.commands.specs.Blocks.{AreKnown, AreRefusedOf};
 ghost use Rattle.commands.specs.Places.{InFolder};

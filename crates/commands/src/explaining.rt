@@ -129,7 +129,7 @@ pub fn change_reason<D: Disk>(
         }
         Change::RemoveGroups { numbers } | Change::Rewrite { numbers }
             if *refusal == Refusal::NoGroup => Ok(group_reason(
-            &store.manifest,
+            store.manifest(),
             numbers.as_slice(),
         )),
         _ => Ok(None),
@@ -217,12 +217,12 @@ pub(crate) fn append_reason<D: Disk>(
 
 /// That the root would be too long, where the options of how files are written are not at fault.
 fn full_root<D: Disk>(alloc: Global, store: &Store<D>) -> R<Option<Reason>> {
-    let options = &store.options;
+    let options = store.options();
     let fault = options_fault(options.group_rows, options.page_rows, options.page_version);
     if fault.is_some() || options.page_rows < FEW_PAGES {
         return Ok(None);
     }
-    let root = store.manifest.to_bytes(alloc)?;
+    let root = store.manifest().to_bytes(alloc)?;
     Ok(Some(Reason::FullRoot(root.len())))
 }
 

@@ -7,7 +7,7 @@ ghost use Rattle.bits.specs.declared.refusal.Refusal.TheVariants.{Limit};
 ghost use Rattle.footer.specs.declared.options.WriteOptions.{WriteOptions as Options};
 ghost use Rattle.manifest.specs.Groups.{Root, root_of};
 ghost use Rattle.rowtext.specs.Reader.{schema_of};
-ghost use Rattle.store.specs.Gathering.{KeepsTable};
+ghost use Rattle.table_commits.specs.Gathering.{KeepsTable};
 ghost use Rattle.commands.specs.Lines.{IsRefusedLine};
 ghost use Rattle.commands.specs.Blocks.{AreKnown, AreRefusedOf};
 ghost use Rattle.commands.specs.inner.LineCuts.{IsLineLength};

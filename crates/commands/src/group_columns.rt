@@ -10,7 +10,7 @@ ghost use Rattle.statistics.specs.Bounds.{statistics_of};
 ghost use Rattle.manifest.specs.Groups.{root_of};
 ghost use Rattle.manifest.specs.Root.{stored_of};
 ghost use Rattle.jsonrows.specs.GroupColumns.{group_and_columns_json};
-ghost use Rattle.store.specs.Listing.{told_of, told_by};
+ghost use Rattle.table_reads.specs.Listing.{told_of, told_by};
 ghost use Rattle.commands.specs.GroupColumns.{Told, AreColumnLines, ListsColumns};
 
 use crate::printing::write_text;
@@ -38,7 +38,7 @@ pub fn print_groups_and_columns<D: Disk, W: Write>(
     ensures same { store.new ≡ store.old }
 {
     let groups = store.groups(alloc)?;
-    print_each(alloc, &store.manifest, groups.as_slice(), texts, out)
+    print_each(alloc, store.manifest(), groups.as_slice(), texts, out)
 }
 
 /// Prints what the groups of a table are, each with what the root knows of its columns.

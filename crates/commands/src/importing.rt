@@ -2,7 +2,7 @@
 
 ghost use Rattle.std.specs.Prelude.{◌≡◌};
 ghost use Rattle.table.specs.State.{State};
-ghost use Rattle.store.specs.Stands.{Stands};
+ghost use Rattle.table_state.specs.Stands.{Stands};
 ghost use Rattle.commands.specs.Importing.{files_view, ImportsFiles, ImportsUnless};
 ghost use Rattle.commands.specs.inner.Staged.{StagesAll, StagesOne};
 

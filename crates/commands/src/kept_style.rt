@@ -78,9 +78,9 @@ pub fn keep_style<D: Disk>(
     if !keeps {
         return Ok(());
     }
-    match kept_style(alloc, &store.manifest, change, texts) {
+    match kept_style(alloc, store.manifest(), change, texts) {
         Ok(Some(style)) => {
-            store.options.style = style;
+            store.set_style(style);
             Ok(())
         }
         Err(Refusal::Memory) => Err(Refusal::Memory),

@@ -11,12 +11,13 @@ ghost use Rattle.commands.specs.Places.{StaysKnown, IsKeptFrom, InFolder};
 ghost use Rattle.schema.specs.Values.{ValueTrees};
 ghost use Rattle.manifest.specs.Groups.{Root};
 ghost use Rattle.gather.specs.GatheredRows.{holds};
-ghost use Rattle.store.specs.Gathering.{AreGatheredFor};
+ghost use Rattle.table_commits.specs.Gathering.{AreGatheredFor};
 ghost use Rattle.commands.specs.inner.Brought.{ChangesWith};
 ghost use Rattle.commands.specs.Tasks.{lent_text};
 ghost use Rattle.commands.specs.Opening.{OpensToRead, OpensToChange, MayCleanUp};
 ghost use Rattle.commands.specs.Calls.{Answers, ChangesAsAsked, ChangesByRows, ChangesStore, ChangesDisk, RunsCalls, IsUnshown, TellsDone};
 ghost use Rattle.commands.specs.Calls.{state_within, disk_within};
+ghost use Rattle.table_state.specs.declared.standing.Core.{Core};
 
 use crate::appending::append_rows;
 use crate::explaining::append_reason;
@@ -256,7 +257,7 @@ impl<S: Write + Clone + Drop> Making<'_, S> {
         let keeps = self.call.keeps_style;
         let mut at = None;
         let done = change_in_style(alloc, store, change, keeps, files, texts, why, &mut at);
-        store.vault.disk.clear();
+        store.disk_mut().clear();
         if let (Some(place), Err(refusal)) = (at, &done) {
             self.name_file(place, refusal, why);
         }
@@ -278,7 +279,7 @@ impl<S: Write + Clone + Drop> Making<'_, S> {
         let (alloc, texts) = (self.alloc, self.call.texts);
         let (gathered, notes) = rows.into_parts(alloc);
         let done = append_rows(alloc, store, unless, gathered, texts);
-        store.vault.disk.clear();
+        store.disk_mut().clear();
         if let Err(refusal) = &done {
             *why = found(append_reason(alloc, store, notes, unless, texts, refusal));
         }
@@ -289,7 +290,7 @@ impl<S: Write + Clone + Drop> Making<'_, S> {
     /// there is a file for readers to lock then. Refused, the disk is handed back.
     fn open<P: Places, D: Disk>(&self, places: &mut P, disk: D) -> Result<Store<D>, (D, Refusal)>
         ensures opens { MatchResult result
-            (λ store. (opened : Store D) × OpensToChange D.state disk self.now.call.now.options (Ok opened) × (store ≡ record opened { keeps = true }))
+            (λ store. (opened : Core D) × OpensToChange D.state disk self.now.call.now.options (Ok opened) × (store ≡ record opened { keeps = true }))
             (λ e. OpensToChange D.state disk self.now.call.now.options (Err e)) }
         ensures same { StaysKnown (P.known places.old) (P.known places.new) }
     {

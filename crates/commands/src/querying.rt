@@ -11,7 +11,7 @@ ghost use Rattle.table.specs.Plans.{row_count};
 ghost use Rattle.table.specs.State.{State};
 ghost use Rattle.table.specs.Views.{names_view};
 ghost use Rattle.jsonrows.specs.SchemaPrinted.{PrintsFields};
-ghost use Rattle.store.specs.Stands.{Stands};
+ghost use Rattle.table_state.specs.Stands.{Stands};
 ghost use Rattle.commands.specs.Lines.{AreGroupLines};
 ghost use Rattle.commands.specs.Making.{IsAskedFilter, IsRefusedFilterOf};
 ghost use Rattle.commands.specs.Querying.{Reads, query_lines, ListsGroups, IsSchemaOfFile};

@@ -3,8 +3,8 @@
 ghost use Rattle.std.specs.Prelude.{◌≡◌, ◌↔◌, ◌≤◌, ◌<◌, length, vec_len, not, IfOk, IfErr, IfSome, IfNone, OnErr};
 ghost use Rattle.table.specs.State.{State};
 ghost use Rattle.table.specs.Views.{call_view, calls_view, answer_view, answers_view};
-ghost use Rattle.store.specs.Stands.{Stands};
-ghost use Rattle.store.specs.Promises.{Acts};
+ghost use Rattle.table_state.specs.Stands.{Stands};
+ghost use Rattle.table_state.specs.Promises.{Acts};
 ghost use Rattle.bits.specs.declared.refusal.Refusal.TheVariants.{Memory};
 ghost use Rattle.commands.specs.Tasks.{StopsInBytes, RunsBytesToRefusal};
 ghost use Rattle.commands.specs.Stopping.{is_done, EndAtRefusal, StopsAt, MakesToRefusal, RunsToRefusal};

@@ -7,7 +7,7 @@ ghost use Rattle.scan.specs.Left.{rows_stand};
 ghost use Rattle.filter.specs.Terms.{terms_view};
 ghost use Rattle.table.specs.State.{State};
 ghost use Rattle.table.specs.Views.{names_view};
-ghost use Rattle.store.specs.Stands.{Stands};
+ghost use Rattle.table_state.specs.Stands.{Stands};
 ghost use Rattle.commands.specs.Querying.{Reads};
 ghost use Rattle.commands.specs.QueryFile.{GotQueryFiles};
 ghost use Rattle.commands.specs.inner.Parts.{TakesRows, WritesAlike};

@@ -172,7 +172,7 @@ fn is_kept(alloc: Global, store: &mut Store<MemDisk>, rows: &str) -> R<bool> {
     store.reopen(alloc)?;
     let found = script::rows(alloc, store)?;
     let groups = store.groups(alloc)?;
-    let disk = &mut store.vault.disk;
+    let disk = store.disk_mut();
     let files = part_files(alloc, disk, "k=a")?.saturating_add(part_files(alloc, disk, "k=b")?);
     Ok(found.as_str() == rows && files == groups.len())
 }

@@ -67,36 +67,47 @@ pub fn comes_back(
     Ok(is_table_after(tables, commits, rows.as_str()))
 }
 
-/// Makes all calls. Whether each went as it may.
-fn makes_all(alloc: Global, store: &mut Store<MemDisk>) -> R<bool> {
+/// Makes all calls up to the first that ends in doubt; then the store is closed and comes back.
+fn makes_all(alloc: Global, store: &mut Store<MemDisk>) -> R<Made> {
     let mut commits: usize = 0;
     for step in &STEPS {
         let before = table_after(commits).unwrap_or("");
         match make(alloc, store, step, before)? {
             Made::AsEver => {}
-            Made::InDoubt => return comes_back(alloc, store, &TABLES, commits),
-            Made::Wrong => return Ok(false),
+            Made::InDoubt => {
+                return if comes_back(alloc, store, &TABLES, commits)? {
+                    Ok(Made::InDoubt)
+                } else {
+                    Ok(Made::Wrong)
+                };
+            }
+            Made::Wrong => return Ok(Made::Wrong),
         }
         if step.commits {
             commits = commits.saturating_add(1);
         }
     }
-    Ok(true)
+    Ok(Made::AsEver)
 }
 
 /// `failures PICK`: one failure at each call of the disk.
 pub fn failures(alloc: Global, pick: u64) -> R<String> {
     let mut seen = Seen::new();
+    let mut doubts: u64 = 0;
     for k in 0..u64::MAX {
         let mut store = script::new_store(alloc)?;
-        store.vault.disk.fail_once(k, pick);
-        let right = makes_all(alloc, &mut store)?;
+        store.disk_mut().fail_once(k, pick);
+        let made = makes_all(alloc, &mut store)?;
         if script::failures(&store) == 0 {
             break;
         }
         seen.stops = seen.stops.saturating_add(1);
-        seen.add(right);
+        match made {
+            Made::AsEver => {}
+            Made::InDoubt => doubts = doubts.saturating_add(1),
+            Made::Wrong => seen.add(false),
+        }
     }
     let (failures, wrong) = (seen.stops, seen.wrong);
-    Ok(format!(in alloc; "{failures} failures, not allowed: {wrong}")?)
+    Ok(format!(in alloc; "{failures} failures, {doubts} in doubt, not allowed: {wrong}")?)
 }

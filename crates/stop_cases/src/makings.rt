@@ -145,7 +145,7 @@ fn is_with_or_without(alloc: Global, disk: MemDisk, must_have: bool) -> R<bool> 
 fn stop_column(alloc: Global, k: u64, pick: u64, seen: &mut Seen) -> R<bool> {
     let mut store = script::new_store(alloc)?;
     script::answer(alloc, &mut store, APPEND)?;
-    store.vault.disk.fuse(k, pick);
+    store.disk_mut().fuse(k, pick);
     let answer = script::answer(alloc, &mut store, COLUMN)?;
     if script::failures(&store) == 0 {
         return Ok(false);

@@ -88,7 +88,7 @@ fn stop_everywhere(alloc: Global, image: &MemDisk, stops: Stops<'_>, seen: &mut 
 /// The disk that the list of calls leaves where it fails from the call `k` on; none where it did not fail.
 fn stopped_calls(alloc: Global, k: u64, pick: u64) -> R<Option<MemDisk>> {
     let mut store = script::new_store(alloc)?;
-    store.vault.disk.fuse(k, pick);
+    store.disk_mut().fuse(k, pick);
     for step in &STEPS {
         let answer = script::answer(alloc, &mut store, step.call)?;
         if answer.as_str() != step.answer {

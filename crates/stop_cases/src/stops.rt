@@ -96,7 +96,7 @@ fn is_allowed(alloc: Global, disk: MemDisk, commits: usize) -> R<bool> {
 /// A stop after `k` calls of the disk, and what each list leaves of it. Whether the disk failed at all.
 fn stop_at(alloc: Global, k: u64, pick: u64, seen: &mut Seen) -> R<bool> {
     let mut store = script::new_store(alloc)?;
-    store.vault.disk.fuse(k, pick);
+    store.disk_mut().fuse(k, pick);
     let commits = done_before_refusal(alloc, &mut store)?;
     if script::failures(&store) == 0 {
         return Ok(false);

@@ -8,9 +8,9 @@ use Rattle.table.specs.Calls.{Call, Answer}
 use Rattle.table.specs.Refusing.{Happens, Run}
 use Rattle.table.specs.Stops.{MayHold, RunsOn}
 use Rattle.table.specs.Beginnings.{Commits, last_of}
-use Rattle.store.specs.declared.store.Store.{Store}
-use Rattle.store.specs.OnDisk.{Holds}
-use Rattle.store.specs.Stands.{Stands}
+use Rattle.table_state.specs.declared.standing.Core.{Core}
+use Rattle.table_state.specs.OnDisk.{HoldsTable}
+use Rattle.table_state.specs.Stands.{Stands}
 use Rattle.store.specs.Running.{RunsFrom}
 
 -- What of a run is left at a moment, from the state on that its ended calls led to at a time before, and which table an
@@ -56,10 +56,10 @@ IsAfterTheCommits s calls answers new = (tables : List Table) × Commits s calls
 -- What `run` says leaves the prefix (`LeavesThePrefix`), at each moment and in each image of the store's disk; and the calls that ended
 -- made their commits, one after another.
 abbrev pub RunsLeaveThePrefix : {D : Type 0} → (D → DiskState) → Type 0
-RunsLeaveThePrefix {D} state = (old new : Store D) (s : State) (calls : List Call) (answers : List Answer) → Stands state old s → (run : RunsFrom state old new calls answers s)
+RunsLeaveThePrefix {D} state = (old new : Core D) (s : State) (calls : List Call) (answers : List Answer) → Stands state old s → (run : RunsFrom state old new calls answers s)
     → (m : ℕ) (image : Image) → (state old.vault.disk).moment ≤ m → m ≤ (state new.vault.disk).moment → (state new.vault.disk).images m image
-    → (left : LeavesThePrefix (state new.vault.disk).images Holds (state old.vault.disk).moment s calls answers (state new.vault.disk).moment run.after m image) × IsAfterTheCommits s left.ended left.told left.mid
+    → (left : LeavesThePrefix (state new.vault.disk).images HoldsTable (state old.vault.disk).moment s calls answers (state new.vault.disk).moment run.after m image) × IsAfterTheCommits s left.ended left.told left.mid
 
 -- what `run` says is a history: the table's laws on histories hold of its calls and answers
 abbrev pub RunsHappen : {D : Type 0} → (D → DiskState) → Type 0
-RunsHappen {D} state = (old new : Store D) (s : State) (calls : List Call) (answers : List Answer) → (run : RunsFrom state old new calls answers s) → Run s calls answers run.after
+RunsHappen {D} state = (old new : Core D) (s : State) (calls : List Call) (answers : List Answer) → (run : RunsFrom state old new calls answers s) → Run s calls answers run.after

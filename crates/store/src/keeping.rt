@@ -1,20 +1,48 @@
-//! Files that are kept for those that read beside this store, and their removal.
+//! Opening anew, and files that are kept for others.
 
-ghost use Rattle.std.specs.Prelude.{◌≡◌, ◌≤◌, ◌↔◌, true, false, [], IsTrue};
+ghost use Rattle.std.specs.Prelude.{◌≡◌, ◌≤◌, ◌+◌, ◌↔◌, true, false, IfErr, OnOk, OnErr, [], IsTrue};
+ghost use Rattle.vault.specs.Calls.{LeavesAll};
 ghost use Rattle.manifest.specs.Groups.{root_of};
 ghost use Rattle.recovery.specs.Opening.{Cleans, IsClean};
-ghost use Rattle.snapshots.specs.Views.{state_of};
-ghost use Rattle.store.specs.Cleaning.{TracksNoMore};
+ghost use Rattle.table.specs.Calls.{reopen, accepted};
+ghost use Rattle.table.specs.Views.{answered};
+ghost use Rattle.table_openings.specs.Opening.{LeavesAllOrCleans};
+ghost use Rattle.table_state.specs.Promises.{Acts, HasCause};
+ghost use Rattle.table_commits.specs.Cleaning.{Clears};
+ghost use Rattle.table.specs.State.{State};
+ghost use Rattle.table_state.specs.Stands.{Stands, Shows};
 
 use crate::store::Store;
+use bits::R;
 use disk::Disk;
-use snapshots::{Event, Snapshots};
 use std::alloc::Global;
 
 impl<D: Disk> Store<D> {
-    ghost use Rattle.table.specs.State.{State};
-    ghost use Rattle.store.specs.Stands.{Stands, Shows};
-    ghost use Rattle.store.specs.Cleaning.{Clears};
+    /// Opens the table anew, as it is on the disk: after a commit in doubt, with or without it. All jobs and cursors are
+    /// gone. A store that keeps what is replaced removes nothing here, else it cleans as [`crate::open`] does.
+    ///
+    /// Refused Device and Memory, and then the store is closed. On a disk that is not honest it may also be refused NoTable,
+    /// and for what stands in `_metadata`.
+    pub fn reopen(&mut self, alloc: Global) -> R<()>
+        ensures acts { Acts D.state self.old self.new reopen (answered (λ _. accepted) result) }
+        ensures cause { HasCause D.state self.old self.new (answered (λ _. accepted) result) }
+        // Refused, the store is closed, also on a disk that is not honest.
+        ensures closed { OnErr result (self.new.closed ≡ true) }
+        // Refused, nothing has changed on the disk; but where memory ran out after the cleaning, what the root does not name
+        // may be gone.
+        ensures unchanged { (D.state self.old.vault.disk).honest → IfErr result (λ e. LeavesAllOrCleans (D.state self.old.vault.disk) (D.state self.new.vault.disk) e) }
+        // Files other than part files that the root does not name, and the next root, are left alone.
+        ensures removes { (D.state self.old.vault.disk).honest → OnOk result (Cleans (root_of self.new.manifest) (D.state self.old.vault.disk) (D.state self.new.vault.disk)) }
+        ensures clean { (D.state self.old.vault.disk).honest → OnOk result (self.new.clean ≡ true → IsClean (root_of self.new.manifest) (D.state self.new.vault.disk)) }
+        ensures keeps { self.new.keeps ≡ self.old.keeps }
+        // A store that keeps what is replaced changes no file.
+        ensures kept { self.old.keeps ≡ true → (D.state self.old.vault.disk).honest → LeavesAll (D.state self.old.vault.disk) (D.state self.new.vault.disk) }
+        ensures counts { (D.state self.old.vault.disk).failures ≤ (D.state self.new.vault.disk).failures }
+        ensures reads { (D.state self.new.vault.disk).reads ≤ (D.state self.old.vault.disk).reads + 1 }
+        ensures honest { (D.state self.old.vault.disk).honest ↔ (D.state self.new.vault.disk).honest }
+    {
+        table_openings::reopen(&mut self.core, alloc)
+    }
 
     /// From here on no call of this store removes a file but [`Store::clean_up`]: a commit leaves the files that it replaces, and
     /// an opening anew cleans nothing. So a program that began to read an earlier version can go on. Takes no memory.
@@ -22,7 +50,7 @@ impl<D: Disk> Store<D> {
         ensures keeps { self.new ≡ record self.old { keeps = true } }
         ensures stands { (s : State) → Stands D.state self.old s → Stands D.state self.new s }
     {
-        self.keeps = true;
+        table_commits::keep_replaced(&mut self.core);
     }
 
     /// Removes the files that nothing needs. Where no cursor and no job is open, these are the next root and each part file in the
@@ -47,47 +75,6 @@ impl<D: Disk> Store<D> {
         ensures reads { (D.state self.new.vault.disk).reads ≡ (D.state self.old.vault.disk).reads }
         ensures honest { (D.state self.old.vault.disk).honest ↔ (D.state self.new.vault.disk).honest }
     {
-        if self.closed {
-            return false;
-        }
-        if !self.is_idle() {
-            self.forget_unneeded(alloc);
-            return false;
-        }
-        let fine = self.clean_idle(alloc);
-        untrack(alloc, &mut self.snapshots);
-        fine
-    }
-
-    /// Whether no job and no cursor is open.
-    fn is_idle(&self) -> bool
-        ensures { IsTrue result ↔ ((self.now.jobs.items ≡ []) × (self.now.cursors.items ≡ [])) }
-    {
-        self.jobs.as_slice().is_empty() && self.cursors.as_slice().is_empty()
-    }
-
-    /// Removes the next root and the part files that the root does not name, where nothing is open. Whether no fault was met.
-    fn clean_idle(&mut self, alloc: Global) -> bool
-        requires jobs { self.old.jobs.items ≡ [] }
-        requires cursors { self.old.cursors.items ≡ [] }
-        ensures clears { (D.state self.old.vault.disk).honest → (s : State) → Shows D.state self.old s → s.closed ≡ false → Clears D.state self.old self.new s }
-        ensures same { self.new ≡ record self.old { vault = self.new.vault } }
-        ensures removes { (D.state self.old.vault.disk).honest → Cleans (root_of self.old.manifest) (D.state self.old.vault.disk) (D.state self.new.vault.disk) }
-        ensures clean { (D.state self.old.vault.disk).honest → IsTrue result → IsClean (root_of self.old.manifest) (D.state self.new.vault.disk) }
-        ensures told { IsTrue result → (D.state self.new.vault.disk).failures ≡ (D.state self.old.vault.disk).failures }
-        ensures counts { (D.state self.old.vault.disk).failures ≤ (D.state self.new.vault.disk).failures }
-        ensures reads { (D.state self.new.vault.disk).reads ≡ (D.state self.old.vault.disk).reads }
-        ensures honest { (D.state self.old.vault.disk).honest ↔ (D.state self.new.vault.disk).honest }
-    {
-        recovery::clean(alloc, &mut self.vault, &self.manifest)
-    }
-}
-
-/// Tracks the files no more that nothing needs. Where memory runs out it goes on tracking them, which does no harm.
-fn untrack(alloc: Global, snapshots: &mut Snapshots)
-    ensures { TracksNoMore (state_of snapshots.old) (state_of snapshots.new) }
-{
-    if let Ok(unneeded) = snapshots.unpinned(alloc) {
-        let _ = snapshots.step(alloc, Event::Gone(unneeded));
+        table_commits::clean_up(&mut self.core, alloc)
     }
 }

@@ -3,7 +3,7 @@
 ghost use Rattle.std.specs.Prelude.{◌≡◌, ◌≤◌, ◌↔◌, map, length, IfOk, IfErr, OnErr};
 ghost use Rattle.table.specs.Calls.{done, job, cursor, more, planned, listed, counted, accepted};
 ghost use Rattle.table.specs.Views.{call_view, answer_view, answered, info_view, fetched_view};
-ghost use Rattle.store.specs.Promises.{Acts, HasCause};
+ghost use Rattle.table_state.specs.Promises.{Acts, HasCause};
 ghost use Rattle.store.specs.Running.{Runs, HaveCauses};
 
 use crate::store::Store;

@@ -158,7 +158,7 @@ pub fn crash(alloc: Global, cases: &mut Cases, picks: &[u64]) -> R<String> {
 /// The disk, of the open store or alone.
 pub fn disk_of(cases: &mut Cases) -> R<&mut MemDisk> {
     if let Some(store) = &mut cases.store {
-        return Ok(&mut store.vault.disk);
+        return Ok(store.disk_mut());
     }
     cases.disk.as_mut().ok_or(Refusal::Script)
 }
@@ -196,7 +196,7 @@ pub fn failures(alloc: Global, cases: &mut Cases) -> R<String> {
 /// `clean`: whether the last opening met no fault while it removed what the root does not name.
 pub fn clean(alloc: Global, cases: &mut Cases) -> R<String> {
     match &cases.store {
-        Some(store) => yes_or_no(alloc, store.clean),
+        Some(store) => yes_or_no(alloc, store.is_clean()),
         None => Err(Refusal::Script),
     }
 }

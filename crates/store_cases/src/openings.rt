@@ -78,7 +78,7 @@ impl Seen {
 fn whole(alloc: Global, disk: MemDisk, options: WriteOptions) -> R<Option<String>> {
     match store::open(alloc, disk, options) {
         Ok(mut store) => {
-            if !store.clean {
+            if !store.is_clean() {
                 return Ok(None);
             }
             Ok(Some(whole_of(alloc, &mut store)?))
@@ -91,7 +91,7 @@ fn whole(alloc: Global, disk: MemDisk, options: WriteOptions) -> R<Option<String
 /// The table of a store, as text.
 fn whole_of(alloc: Global, store: &mut Store<MemDisk>) -> R<String> {
     let rows = rows_of(alloc, store)?;
-    let files = all_on(alloc, &mut store.vault.disk)?;
+    let files = all_on(alloc, store.disk_mut())?;
     Ok(format!(in alloc; "{rows} {files}")?)
 }
 
@@ -121,7 +121,7 @@ fn stopped(
 ) -> R<bool> {
     let left = match store::open(alloc, disk, options) {
         Ok(store) => {
-            let is_clean = store.clean;
+            let is_clean = store.is_clean();
             let left = store.into_disk();
             seen.note(is_clean == (left.failures() == 0));
             left
@@ -154,13 +154,13 @@ fn failed(
         Err((_, refusal)) => return Err(refusal),
     };
     if store.disk().failures() == 0 {
-        seen.note(store.clean);
+        seen.note(store.is_clean());
         return Ok(false);
     }
-    seen.note(store.disk().failures() == 1 && !store.clean);
+    seen.note(store.disk().failures() == 1 && !store.is_clean());
     store.reopen(alloc)?;
     let found = whole_of(alloc, &mut store)?;
-    seen.note(store.clean && found.as_str() == wanted);
+    seen.note(store.is_clean() && found.as_str() == wanted);
     Ok(true)
 }
 

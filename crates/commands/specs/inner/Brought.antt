@@ -5,8 +5,8 @@ use Rattle.disk.specs.State.{State as DiskState}
 use Rattle.schema.specs.Values.{ValueTrees}
 use Rattle.manifest.specs.Groups.{Root}
 use Rattle.gather.specs.GatheredRows.{holds}
-use Rattle.store.specs.declared.store.Store.{Store}
-use Rattle.store.specs.Gathering.{AreGatheredFor}
+use Rattle.table_state.specs.declared.standing.Core.{Core}
+use Rattle.table_commits.specs.Gathering.{AreGatheredFor}
 use Rattle.dataset_words.specs.declared.call.Call.{Call}
 use Rattle.commands.specs.Importing.{files_view}
 use Rattle.commands.specs.Tasks.{lent_text}
@@ -16,7 +16,7 @@ use Rattle.commands.specs.declared.opening.Brought.{Brought}
 use Rattle.commands.specs.declared.opening.Brought.TheVariants.{Files, Rows}
 
 -- what is made of a store with the bytes of files, or with rows that were gathered for a table
-abbrev pub ChangesWith : {D S : Type 0} → (D → DiskState) → Call → Brought → Option (List ℕ) → Option (List ℕ) → Store (Watched D S) → Store (Watched D S)
+abbrev pub ChangesWith : {D S : Type 0} → (D → DiskState) → Call → Brought → Option (List ℕ) → Option (List ℕ) → Core (Watched D S) → Core (Watched D S)
     → Result ⊤ Refusal → Type 0
 ChangesWith state call (Files files) before after old new result = ChangesStore state call call.task (files_view files.now) before after old new result
 ChangesWith state call (Rows rows unless) before after old new result = (root : Root) (given : List ValueTrees) → holds rows.gathered given

@@ -13,8 +13,8 @@ use Rattle.table.specs.Cursors.{Batch, Columns}
 use Rattle.table.specs.State.{State}
 use Rattle.table.specs.Calls.{Call, fetch, Answer, ended}
 use Rattle.table.specs.Queries.{given}
-use Rattle.store.specs.declared.store.Store.{Store}
-use Rattle.store.specs.Stands.{Stands}
+use Rattle.table_state.specs.declared.standing.Core.{Core}
+use Rattle.table_state.specs.Stands.{Stands}
 use Rattle.commands.specs.declared.part_writer.PartWriter.{PartWriter}
 use Rattle.commands.specs.Querying.{row_lines, ActsOn, OnlyReads}
 use Rattle.commands.specs.QueryFile.{query_rows, first_of, GotFiles}
@@ -23,7 +23,7 @@ use Rattle.commands.specs.inner.Gathering.{BeginsLines}
 use Rattle.commands.specs.inner.Parts.{TakesRows}
 
 -- From the one state the store makes fetches of a cursor, each of which gives a batch, and something is done with these.
-pub record HasFetched {D : Type 0} (state : D → DiskState) (old new : Store D) (n : ℕ) (Done : List Batch → Type 0) (s : State) : Type 0 where
+pub record HasFetched {D : Type 0} (state : D → DiskState) (old new : Core D) (n : ℕ) (Done : List Batch → Type 0) (s : State) : Type 0 where
   pub calls : List Call
   pub answers : List Answer
   pub last : State
@@ -45,7 +45,7 @@ pub record FetchesUpTo (n : ℕ) (Done Enough : List Batch → Type 0) (calls : 
 
 -- From the one state the store makes fetches of a cursor, and where the result is Ok something is done with all that it still gives, or
 -- with what is enough of it.
-pub record FetchesFirst {D T : Type 0} (state : D → DiskState) (old new : Store D) (n : ℕ) (Done Enough : List Batch → Type 0) (result : Result T Refusal) (s : State) : Type 0 where
+pub record FetchesFirst {D T : Type 0} (state : D → DiskState) (old new : Core D) (n : ℕ) (Done Enough : List Batch → Type 0) (result : Result T Refusal) (s : State) : Type 0 where
   pub calls : List Call
   pub answers : List Answer
   pub last : State
@@ -86,7 +86,7 @@ HasPrinted texts fs text before after rows = Appends before after (row_lines tex
 
 -- From the one state the store makes fetches of a cursor, and where the result is Ok the lines of the first rows of what it still gives
 -- are printed.
-abbrev pub PrintsLeft : {D T : Type 0} → (D → DiskState) → Bool → Fields → Store D → Store D → ℕ → Option ℕ → Option (List ℕ) → Option (List ℕ)
+abbrev pub PrintsLeft : {D T : Type 0} → (D → DiskState) → Bool → Fields → Core D → Core D → ℕ → Option ℕ → Option (List ℕ) → Option (List ℕ)
     → Result T Refusal → State → Type 0
 PrintsLeft state texts fs old new n limit before after result s =
     FetchesFirst state old new n (WhereFitting fs (λ rows. Appends before after (row_lines texts fs (first_of limit rows))))
@@ -96,7 +96,7 @@ PrintsLeft state texts fs old new n limit before after result s =
 
 -- From the one state the store makes fetches of a cursor, and where the result is Ok a writer is given the first rows of what it still
 -- gives.
-abbrev pub TakesLeft : {D T : Type 0} → (D → DiskState) → Store D → Store D → ℕ → Option ℕ → PartWriter → PartWriter → Option (List (List ℕ))
+abbrev pub TakesLeft : {D T : Type 0} → (D → DiskState) → Core D → Core D → ℕ → Option ℕ → PartWriter → PartWriter → Option (List (List ℕ))
     → Option (List (List ℕ)) → Result T Refusal → State → Type 0
 TakesLeft state old new n limit from to was is result s =
     FetchesFirst state old new n (WhereFitting from.schema.now (λ rows. TakesRows from to was is (first_of limit rows)))
@@ -104,14 +104,14 @@ TakesLeft state old new n limit from to was is result s =
 
 -- From the one state the store makes calls that only read, and where the result is Ok a writer is given the rows that satisfy, or the
 -- first of them, where these are rows of its columns.
-pub record WritesSelected {D T : Type 0} (state : D → DiskState) (old new : Store D) (terms : Filter) (columns : Columns) (limit : Option ℕ) (before after : PartWriter)
+pub record WritesSelected {D T : Type 0} (state : D → DiskState) (old new : Core D) (terms : Filter) (columns : Columns) (limit : Option ℕ) (before after : PartWriter)
     (was is : Option (List (List ℕ))) (result : Result T Refusal) (s : State) : Type 0 where
   pub reads : OnlyReads state old new s
   pub written : OnOk result (RowsFit before.schema.now (query_rows terms columns s.table) → TakesRows before after was is (first_of limit (query_rows terms columns s.table)))
 
 -- From the one state the store makes calls that only read, and where the result is Ok a sink got files of the rows that satisfy, or of
 -- the first of them, where these are rows of these columns.
-pub record GivesFiles {D T : Type 0} (state : D → DiskState) (old new : Store D) (options : WriteOptions) (fs : Fields) (terms : Filter) (columns : Columns) (limit most : Option ℕ)
+pub record GivesFiles {D T : Type 0} (state : D → DiskState) (old new : Core D) (options : WriteOptions) (fs : Fields) (terms : Filter) (columns : Columns) (limit most : Option ℕ)
     (was is : Option (List (List ℕ))) (result : Result T Refusal) (s : State) : Type 0 where
   pub reads : OnlyReads state old new s
   pub got : OnOk result (RowsFit fs (query_rows terms columns s.table) → GotFiles options fs (first_of limit (query_rows terms columns s.table)) most was is)

@@ -10,7 +10,7 @@ use Rattle.manifest.specs.Groups.{Root}
 use Rattle.rowtext.specs.Reader.{schema_of as fields_of}
 use Rattle.gather.specs.declared.gathered.Gathered.{Gathered}
 use Rattle.gather.specs.GatheredRows.{holds, schema_of}
-use Rattle.store.specs.Gathering.{AreGatheredFor}
+use Rattle.table_commits.specs.Gathering.{AreGatheredFor}
 use Rattle.commands.specs.Lines.{IsRowText, AreRowTexts}
 use Rattle.commands.specs.Blocks.{AreKnown, AreWholeLines, AreRefusedIn, AreRefusedOf}
 use Rattle.commands.specs.declared.gathering.LineGatherer.{LineGatherer}

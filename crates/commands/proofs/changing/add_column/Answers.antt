@@ -4,7 +4,7 @@ use Rattle.schema.specs.Elements.{Element}
 use Rattle.schema.specs.Listed.{listings}
 use Rattle.table.specs.Calls.{add_column, done}
 use Rattle.table.specs.Views.{answered}
-use Rattle.store.specs.Promises.{ActsFrom}
+use Rattle.table_state.specs.Promises.{ActsFrom}
 use Rattle.jsonrows.specs.SchemaJson.{IsRefusedSchema}
 use Rattle.commands.specs.Making.{MakesFrom, made, not_made, AsksColumn}
 use Rattle.commands.proofs.changing.add_column.Goals as goal

@@ -6,7 +6,7 @@ use Rattle.filter.specs.Terms.{terms_view}
 use Rattle.filter.specs.declared.term.Term.{Term}
 use Rattle.table.specs.Calls.{remove, done}
 use Rattle.table.specs.Views.{answered}
-use Rattle.store.specs.Promises.{ActsFrom}
+use Rattle.table_state.specs.Promises.{ActsFrom}
 use Rattle.jsonrows.specs.Filters.{IsFilterTextAs, IsRefusedFilterAs}
 use Rattle.commands.specs.Making.{MakesFrom, made, not_made, AsksRemove}
 use Rattle.commands.proofs.changing.remove_rows.Goals as goal

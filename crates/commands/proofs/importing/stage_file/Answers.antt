@@ -7,7 +7,7 @@ use Rattle.schema.specs.declared.row.Row.{Row}
 use Rattle.footer.specs.File.{FileMeans}
 use Rattle.table.specs.Calls.{stage, accepted}
 use Rattle.table.specs.Views.{answered}
-use Rattle.store.specs.Promises.{ActsFrom}
+use Rattle.table_state.specs.Promises.{ActsFrom}
 use Rattle.commands.specs.Importing.{not_read, other_columns}
 use Rattle.commands.specs.inner.Staged.{StagesOne}
 use Rattle.commands.proofs.StagedFiles.{bytes_refused, stages_one}

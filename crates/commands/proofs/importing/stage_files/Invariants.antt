@@ -1,6 +1,6 @@
 use Rattle.std.proofs.Common.{take}
 use Rattle.table.specs.State.{State}
-use Rattle.store.specs.Stands.{Stands}
+use Rattle.table_state.specs.Stands.{Stands}
 use Rattle.commands.specs.Importing.{files_view, StagesFiles}
 use Rattle.commands.proofs.importing.stage_files.Given as goal
 

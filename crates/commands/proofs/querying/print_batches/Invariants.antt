@@ -1,7 +1,7 @@
 use Rattle.std.proofs.Common.{◌≡◌, Bool, false}
 use Rattle.schema.specs.Shape.{Fields}
 use Rattle.table.specs.State.{State}
-use Rattle.store.specs.Stands.{Stands}
+use Rattle.table_state.specs.Stands.{Stands}
 use Rattle.commands.specs.inner.Fetched.{HasFetched, WhereFitting, HoldsOfFirst, HasPrinted}
 use Rattle.commands.specs.inner.Gathering.{BeginsLines}
 use Rattle.commands.proofs.querying.print_batches.Given as goal

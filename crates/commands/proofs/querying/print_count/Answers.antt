@@ -5,7 +5,7 @@ use Rattle.filter.specs.Terms.{terms_view}
 use Rattle.filter.specs.declared.term.Term.{Term}
 use Rattle.table.specs.Plans.{row_count}
 use Rattle.table.specs.Calls.{count, counted, refused}
-use Rattle.store.specs.Promises.{ActsFrom}
+use Rattle.table_state.specs.Promises.{ActsFrom}
 use Rattle.commands.specs.Querying.{ReadsFrom, read, not_read}
 use Rattle.commands.proofs.Counted.{counts, printed_count}
 use Rattle.commands.proofs.querying.print_count.Goals as goal

@@ -4,7 +4,7 @@ use Rattle.vault.proofs.Chained.{refused as passed}
 use Rattle.filter.specs.Terms.{terms_view}
 use Rattle.filter.specs.declared.term.Term.{Term}
 use Rattle.table.specs.Views.{names_view}
-use Rattle.store.specs.declared.store.Store.{Store}
+use Rattle.table_state.specs.declared.standing.Core.{Core}
 use Rattle.commands.specs.Querying.{ReadsFrom, read, not_read, query_lines}
 use Rattle.commands.specs.inner.Batches.{PrintsSelected}
 use Rattle.commands.proofs.querying.print_rows.Goals as goal
@@ -25,6 +25,6 @@ returns-clause-prints g c = λ honest s stands.
     let columns = names_view c.args.columns in
     let same = c.printing_of-progress.ensures.same in
     let selected = c.print_selected-printed.ensures.prints (rw same honest) s (rw same stands) in
-    let of_old = subst (λ (x : Store g.row.D.Denot). PrintsSelected state c.args.texts x c.print_selected-printed.new.store (terms_view c.as_slice-2.result.now) columns None (contents c.args.out.now) (contents c.print_selected-printed.new.out) c.print_selected-printed.result s) same selected in
+    let of_old = subst (λ (x : Core g.row.D.Denot). PrintsSelected state c.args.texts x c.print_selected-printed.new.store (terms_view c.as_slice-2.result.now) columns None (contents c.args.out.now) (contents c.print_selected-printed.new.out) c.print_selected-printed.result s) same selected in
     let told = subst (λ (ts : List (Vec Term Global)). PrintsSelected state c.args.texts c.args.store.now c.print_selected-printed.new.store (terms_view ts) columns None (contents c.args.out.now) (contents c.print_selected-printed.new.out) c.print_selected-printed.result s) c.as_slice-2.ensures.value of_old in
     read terms (c.in_ok-terms.ensures.stands s stands) told.reads told.printed

@@ -2,8 +2,8 @@ use Rattle.std.proofs.Common.{◌≡◌, ◌∙◌, ℕ, List, Err, map, ap, ref
 use Rattle.vault.proofs.Chained.{refused}
 use Rattle.table.specs.Calls.{groups, refused as refused_answer}
 use Rattle.table.specs.declared.answer.GroupInfo.{GroupInfo}
-use Rattle.store.specs.declared.store.Store.{Store}
-use Rattle.store.specs.Promises.{ActsFrom}
+use Rattle.table_state.specs.declared.standing.Core.{Core}
+use Rattle.table_state.specs.Promises.{ActsFrom}
 use Rattle.commands.specs.Making.{RewritesFrom}
 use Rattle.commands.specs.Renewing.{RewritesAllFrom, all_named, not_listed, no_memory}
 use Rattle.commands.proofs.Renewed.{told_numbers}
@@ -15,7 +15,7 @@ returns-in_err-groups g c = record {
       let old = c.args.store.now in
       let e = c.in_err-groups.field-0.0 in
       let same = c.in_err-groups.ensures.same in
-      let acts = subst (λ (x : Store g.row.D.Denot). ActsFrom g.D.Disk.state old x groups (refused_answer e) s) same (c.in_err-groups.ensures.acts honest s stands) in
+      let acts = subst (λ (x : Core g.row.D.Denot). ActsFrom g.D.Disk.state old x groups (refused_answer e) s) same (c.in_err-groups.ensures.acts honest s stands) in
       refused (λ r. RewritesAllFrom g.D.Disk.state old c.groups.new.self r s) c.from_residual.result e c.from_residual.ensures.1 (not_listed e refl same acts);
 }
 
@@ -40,6 +40,6 @@ returns g c = record {
       let of_infos : numbers ≡ map (λ (x : GroupInfo). x.number) infos =
       c.in_ok-numbers.ensures.numbers ∙ ap (map (λ (x : GroupInfo). x.number)) c.as_slice.ensures.value in
       let done = c.rewrite_groups.ensures.rewrites (rw same honest) s (rw same stands) in
-      let from_old = subst (λ (x : Store g.row.D.Denot). RewritesFrom g.D.Disk.state x new c.as_slice-2.result.now result s) same done in
+      let from_old = subst (λ (x : Core g.row.D.Denot). RewritesFrom g.D.Disk.state x new c.as_slice-2.result.now result s) same done in
       all_named numbers (of_infos ∙ told) (subst (λ (ns : List ℕ). RewritesFrom g.D.Disk.state old new ns result s) c.as_slice-2.ensures.value from_old);
 }

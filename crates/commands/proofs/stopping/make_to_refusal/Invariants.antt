@@ -2,7 +2,7 @@ use Rattle.std.proofs.Common.{◌≡◌, ◌↔◌, map, take, length}
 use Rattle.std.specs.Vec.{vec_len, vec_capacity}
 use Rattle.table.specs.State.{State}
 use Rattle.table.specs.Views.{call_view, answer_view}
-use Rattle.store.specs.Stands.{Stands}
+use Rattle.table_state.specs.Stands.{Stands}
 use Rattle.store.specs.Running.{RunsFrom}
 use Rattle.commands.specs.Stopping.{AreDone}
 use Rattle.commands.proofs.stopping.make_to_refusal.Given as goal

@@ -2,7 +2,7 @@ use Rattle.std.proofs.Common.{◌∙◌, ℕ, List, sym, subst}
 use Rattle.dataset_words.specs.declared.call.Change.{Change}
 use Rattle.table.specs.Calls.{remove_groups, done}
 use Rattle.table.specs.Views.{answered}
-use Rattle.store.specs.Promises.{Acts}
+use Rattle.table_state.specs.Promises.{Acts}
 use Rattle.commands.specs.Importing.{files_view}
 use Rattle.commands.specs.Making.{Rewrites}
 use Rattle.commands.specs.Tasks.{AddsColumn, MakesChange}

@@ -6,7 +6,7 @@ use Rattle.filter.specs.Terms.{terms_view}
 use Rattle.filter.specs.declared.term.Term.{Term}
 use Rattle.table.specs.Calls.{count, counted}
 use Rattle.table.specs.Views.{answered}
-use Rattle.store.specs.Promises.{ActsFrom}
+use Rattle.table_state.specs.Promises.{ActsFrom}
 use Rattle.jsonrows.specs.Filters.{IsFilterTextAs, IsRefusedFilterAs}
 use Rattle.commands.specs.Unless.{CountsFrom, counts_them, no_filter}
 use Rattle.commands.proofs.unless.count_rows.Goals as goal

@@ -1,6 +1,6 @@
 use Rattle.std.proofs.Common.{◌≡◌, false}
 use Rattle.table.specs.State.{State}
-use Rattle.store.specs.Stands.{Stands}
+use Rattle.table_state.specs.Stands.{Stands}
 use Rattle.commands.specs.inner.Fetched.{HasFetched, WhereFitting, HoldsOfFirst}
 use Rattle.commands.specs.inner.Parts.{TakesRows, WritesAlike}
 use Rattle.commands.proofs.writing_query.write_batches.Given as goal

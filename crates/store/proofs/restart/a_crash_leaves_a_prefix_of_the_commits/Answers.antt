@@ -1,4 +1,4 @@
-use Rattle.store.proofs.Prefixed.{runs_leave_the_prefix, runs_happen}
+use Rattle.store.proofs.PrefixLaws.{runs_leave_the_prefix, runs_happen}
 use Rattle.store.proofs.restart.a_crash_leaves_a_prefix_of_the_commits.Goals as goal
 
 pub returns-clause-prefix : goal.returns-clause-prefix

@@ -1,0 +1,109 @@
+-- How a run goes on by one call: the step of the loop in `run`, from the contract of the single call.
+use Rattle.std.proofs.Common.{◌≡◌, ◌≤◌, ◌↔◌, ℕ, ◌+◌, Bool, true, false, if◌then◌else◌, List, [], ◌∷◌, ◌++◌, length, filter, refl, sym, ◌∙◌, ap, subst, arith, inl, inr, ⊎_elim}
+use Rattle.std.proofs.lemmas.List.Elements.{filter-append}
+use Rattle.std.proofs.lemmas.List.{length-append}
+use Rattle.vault.specs.Calls.{HasFailed}
+use Rattle.disk.specs.State.{State as DiskState}
+use Rattle.table.specs.State.{State}
+use Rattle.table.specs.Calls.{Call, Answer}
+use Rattle.table.specs.Refusing.{Happens, is_failure}
+use Rattle.table.specs.Stops.{Survives, RunsOn}
+use Rattle.table_state.specs.declared.standing.Core.{Core}
+use Rattle.table_state.specs.OnDisk.{HoldsTable}
+use Rattle.table_state.specs.Stands.{Stands}
+use Rattle.table_state.specs.Promises.{KeepsPast, Acts, ActsFrom, HasCause}
+use Rattle.store.specs.Running.{Runs, RunsFrom, HaveCauses, HasFailedTimes}
+use Rattle.table_commits.proofs.StateCarriedOver.{past_on}
+
+-- what a stop left stays what it left
+survives_later : (mid new : DiskState) → KeepsPast mid new → (start finish : ℕ) (s t : State) → finish ≤ mid.moment → Survives mid.images HoldsTable start finish s t → Survives new.images HoldsTable start finish s t
+survives_later mid new past start finish s t le h = record {
+  later = h.later;
+  each = λ m image from to left. h.each m image from to (past.history m image (omega (arith, to, le)) left);
+  ended = λ image left. h.ended image (past.history finish image le left);
+}
+
+ends_by : (disk : DiskState) (start : ℕ) (s : State) (calls : List Call) (answers : List Answer) (finish : ℕ) (t : State) → RunsOn disk.images HoldsTable start s calls answers finish t → start ≤ finish
+ends_by disk start s [] [] finish t run = omega (arith, run.0)
+ends_by disk start s (call ∷ calls) (answer ∷ answers) finish t run = omega (arith, run.3.later, ends_by disk run.0 run.1 calls answers finish t run.4)
+ends_by disk start s [] (answer ∷ answers) finish t run = absurd run
+ends_by disk start s (call ∷ calls) [] finish t run = absurd run
+
+pub goes_on : (mid new : DiskState) → KeepsPast mid new → (start : ℕ) (s : State) (calls : List Call) (answers : List Answer) (finish : ℕ) (t : State) → finish ≤ mid.moment
+    → RunsOn mid.images HoldsTable start s calls answers finish t → (call : Call) (answer : Answer) (u : State) → Happens t call answer u → Survives new.images HoldsTable finish new.moment t u
+    → RunsOn new.images HoldsTable start s (calls ++ call ∷ []) (answers ++ answer ∷ []) new.moment u
+goes_on mid new past start s [] [] finish t le run call answer u happens survives =
+    let P : ℕ → State → Type 0 = λ begin first. (next : ℕ) × (last : State) × Happens first call answer last × Survives new.images HoldsTable begin next first last × ((next ≡ new.moment) × (u ≡ last)) in
+    let here : P finish t = (new.moment, u, happens, survives, (refl, refl)) in
+    subst (λ (f : State). P start f) run.1 (subst (λ (b : ℕ). P b t) (sym run.0) here)
+goes_on mid new past start s (c ∷ calls) (a ∷ answers) finish t le run call answer u happens survives = (
+  run.0,
+  run.1,
+  run.2,
+  survives_later mid new past start run.0 s run.1 (omega (arith, le, ends_by mid run.0 run.1 calls answers finish t run.4)) run.3,
+  goes_on mid new past run.0 run.1 calls answers finish t le run.4 call answer u happens survives,
+)
+goes_on mid new past start s [] (a ∷ answers) finish t le run call answer u happens survives = absurd run
+goes_on mid new past start s (c ∷ calls) [] finish t le run call answer u happens survives = absurd run
+
+-- ---- failures are counted
+
+one_by_one : (answers : List Answer) (answer : Answer) → length (filter is_failure (answers ++ answer ∷ [])) ≡ length (filter is_failure answers) + (if is_failure answer then 1 else 0)
+one_by_one answers answer = ap length (filter-append is_failure answers (answer ∷ [])) ∙ length-append (filter is_failure answers) (filter is_failure (answer ∷ [])) ∙ ap (λ n. length (filter is_failure answers) + n) (by (is_failure answer))
+  where
+    by : (b : Bool) → length (if b then answer ∷ [] else []) ≡ (if b then 1 else 0)
+    by true = refl
+    by false = refl
+
+-- ---- of a store
+
+module _ {D : Type 0} (state : D → DiskState) where
+  pub nothing_yet : (store : Core D) (s : State) → Stands state store s → RunsFrom state store store [] [] s
+  nothing_yet store s stands = record { after = s; runs = (refl, refl); stands = stands; past = record { later = omega arith; history = λ m c l left. left; keeps = λ m c l left. left } }
+
+  pub one_more : (old mid new : Core D) (calls : List Call) (answers : List Answer) (s : State) (run : RunsFrom state old mid calls answers s) (call : Call) (answer : Answer)
+      → ActsFrom state mid new call answer run.after → RunsFrom state old new (calls ++ call ∷ []) (answers ++ answer ∷ []) s
+  one_more old mid new calls answers s run call answer acts = record {
+    after = acts.after;
+    runs = goes_on (state mid.vault.disk) (state new.vault.disk) acts.past (state old.vault.disk).moment s calls answers (state mid.vault.disk).moment run.after (omega arith) run.runs call answer acts.after acts.happens acts.survives;
+    stands = acts.stands;
+    past = past_on (state old.vault.disk) (state mid.vault.disk) (state new.vault.disk) run.past acts.past;
+  }
+
+  -- each failure that is told has one of its own
+  pub causes_on : (old mid new : Core D) (calls : List Call) (answers : List Answer) (call : Call) (answer : Answer)
+      → (state old.vault.disk).honest ↔ (state mid.vault.disk).honest → (state mid.vault.disk).failures ≤ (state new.vault.disk).failures
+      → Runs state old mid calls answers → HaveCauses state old mid answers → HasCause state mid new answer → HaveCauses state old new (answers ++ answer ∷ [])
+  causes_on old mid new calls answers call answer same grows runs causes cause honest s stands =
+      subst (λ n. HasFailedTimes n (state old.vault.disk) (state new.vault.disk)) (sym (one_by_one answers answer)) (by (is_failure answer) refl)
+    where
+      before : HasFailedTimes (length (filter is_failure answers)) (state old.vault.disk) (state mid.vault.disk)
+      before = causes honest s stands
+
+      now : is_failure answer ≡ true → HasFailed (state mid.vault.disk) (state new.vault.disk)
+      now e = let r = runs honest s stands in cause (same.0 honest) r.after r.stands e
+
+      by : (b : Bool) → is_failure answer ≡ b → HasFailedTimes (length (filter is_failure answers) + (if b then 1 else 0)) (state old.vault.disk) (state new.vault.disk)
+      by false e = ⊎_elim (λ l. inl (omega (arith, l, grows))) (λ m. inr (omega (arith, m, grows))) before
+      by true e = ⊎_elim
+          (λ l. ⊎_elim (λ m. inl (omega (arith, l, m))) (λ m. inr (omega (arith, m, grows))) (now e))
+          (λ m. inr (omega (arith, m, grows)))
+          before
+
+  pub runs_more : (old mid new : Core D) (calls : List Call) (answers : List Answer) (call : Call) (answer : Answer) → (state old.vault.disk).honest ↔ (state mid.vault.disk).honest
+      → Runs state old mid calls answers → Acts state mid new call answer → Runs state old new (calls ++ call ∷ []) (answers ++ answer ∷ [])
+  runs_more old mid new calls answers call answer same runs acts honest s stands =
+      let r = runs honest s stands in
+      one_more old mid new calls answers s r call answer (acts (same.0 honest) r.after r.stands)
+
+  -- the same, of lists that are one longer
+  pub goes_on_as : (old mid new : Core D) (calls cs : List Call) (answers told : List Answer) (call : Call) (answer : Answer) → calls ++ call ∷ [] ≡ cs → answers ++ answer ∷ [] ≡ told
+      → (state old.vault.disk).honest ↔ (state mid.vault.disk).honest → Runs state old mid calls answers → Acts state mid new call answer → Runs state old new cs told
+  goes_on_as old mid new calls cs answers told call answer e f same runs acts =
+      subst (λ (xs : List Call). Runs state old new xs told) e (subst (λ (ys : List Answer). Runs state old new (calls ++ call ∷ []) ys) f (runs_more old mid new calls answers call answer same runs acts))
+
+  pub causes_as : (old mid new : Core D) (calls : List Call) (answers told : List Answer) (call : Call) (answer : Answer) → answers ++ answer ∷ [] ≡ told
+      → (state old.vault.disk).honest ↔ (state mid.vault.disk).honest → (state mid.vault.disk).failures ≤ (state new.vault.disk).failures
+      → Runs state old mid calls answers → HaveCauses state old mid answers → HasCause state mid new answer → HaveCauses state old new told
+  causes_as old mid new calls answers told call answer f same grows runs causes cause =
+      subst (λ (ys : List Answer). HaveCauses state old new ys) f (causes_on old mid new calls answers call answer same grows runs causes cause)

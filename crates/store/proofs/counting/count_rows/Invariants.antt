@@ -1,8 +1,0 @@
-use Rattle.std.proofs.Common.{drop}
-use Rattle.filter.specs.Test.{tests_in}
-use Rattle.manifest.specs.Groups.{groups_of_blocks, root_of}
-use Rattle.store.proofs.Tallied.{Tally}
-use Rattle.store.proofs.counting.count_rows.Given as goal
-
-abbrev pub invariant-loop-block : goal.invariant-loop-block
-invariant-loop-block g l = Tally (tests_in l.filter) (root_of l.table) (g.D.Disk.state l.initial.vault.disk) (g.D.Disk.state l.vault.disk) (groups_of_blocks l.block-items) (groups_of_blocks (drop l.block-index l.block-items)) l.found

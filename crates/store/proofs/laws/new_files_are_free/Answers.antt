@@ -1,5 +1,0 @@
-use Rattle.store.proofs.FreePaths.{new_files_are_free}
-use Rattle.store.proofs.laws.new_files_are_free.Goals as goal
-
-pub returns : goal.returns
-returns g c = new_files_are_free g.D.Disk.state

@@ -1,7 +1,0 @@
-use Rattle.std.proofs.Common.{◌≡◌, drop}
-use Rattle.store.specs.Stepping.{source_in}
-use Rattle.store.proofs.sources.source_at.Given as goal
-
--- the place among the sources of the runs that are left
-abbrev pub invariant-loop-run : goal.invariant-loop-run
-invariant-loop-run l = source_in (drop l.run-index l.runs) l.left ≡ source_in l.runs l.place

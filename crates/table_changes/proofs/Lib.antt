@@ -1,0 +1,18 @@
+mod GatheredChecks
+mod RowsGathered
+pub mod AppendChecks
+mod NotInDoubt
+mod RowsThatFillNoGroup
+mod GatheredGroupsWritten
+pub mod AppendEnds
+mod ImportEnds
+mod OpenOverMoreColumns
+mod ColumnsAdded
+mod WhatRemains
+mod ReplacingOneGroup
+mod RemovalEnds
+mod GroupsReplaced
+mod GroupsJudged
+mod RemovalChecks
+mod GroupsForeseen
+mod RootsForeseen

@@ -1,0 +1,3 @@
+pub mod RootLimit
+pub mod Widening
+pub mod Removing

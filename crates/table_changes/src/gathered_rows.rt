@@ -1,0 +1,113 @@
+//! Rows that are gathered for a table.
+
+ghost use Rattle.std.specs.Prelude.{◌≡◌, [], List, false, Ok, IfOk, IfErr};
+ghost use Rattle.bits.specs.Refusals.{RefusedOnly, RefusedMemoryOnly};
+ghost use Rattle.schema.specs.Fits.{RowsFit};
+ghost use Rattle.schema.specs.Values.{ValueTrees};
+ghost use Rattle.schema.specs.Views.{rows_view};
+ghost use Rattle.footer.specs.Left.{rows_of_file, rows_stand};
+ghost use Rattle.gather.specs.GatheredRows.{holds};
+ghost use Rattle.manifest.specs.Groups.{root_of};
+ghost use Rattle.table_commits.specs.Gathering.{AreGatheredFor, GathersNext, KeepsTable, IsReadFor, IsNotRead};
+
+use crate::comparing::same_schema;
+use assemble::RowSink;
+use bits::{R, Refusal};
+use footer::{FileReader, Rows, WriteOptions};
+use gather::Gathered;
+use manifest::Manifest;
+use schema::Row;
+use std::alloc::Global;
+
+/// No rows yet that are gathered for a table, in groups of the size that the options say. It fails only when out of memory.
+pub fn begin_gathering<'a>(
+    alloc: Global,
+    table: &'a Manifest,
+    options: &WriteOptions,
+) -> R<Gathered<'a>>
+    ensures begins { IfOk result (λ g. holds g []) }
+    ensures table { IfOk result (AreGatheredFor (root_of table.now) options.now) }
+    ensures which { RefusedMemoryOnly result }
+{
+    // For the proof: what is known of the schema.
+    let _ = table.schema().leaves();
+    let size = options.group_rows as usize;
+    let gathered = Gathered::new(alloc, table.schema(), table.keys(), table.stored(), size)?;
+    Ok(gathered)
+}
+
+/// The rows of a list, gathered for a table that they fit. Refused RowShape for one that does not.
+pub(crate) fn gather_rows<'a>(
+    alloc: Global,
+    table: &'a Manifest,
+    options: &WriteOptions,
+    rows: &[Row],
+) -> R<Gathered<'a>>
+    ensures held { IfOk result (λ g. holds g (rows_view rows.now)) }
+    ensures table { IfOk result (AreGatheredFor (root_of table.now) options.now) }
+    ensures only { RowsFit (root_of table.now).schema (rows_view rows.now) → RefusedMemoryOnly result }
+    ensures which { RefusedOnly (λ e. e ≡ Refusal.RowShape) result }
+{
+    let mut gathered = begin_gathering(alloc, table, options)?;
+    for row in rows {
+        gathered.push(row)?;
+    }
+    Ok(gathered)
+}
+
+/// The rows of the bytes of a file, gathered for a table of its schema. No row is made.
+///
+/// Refused as [`FileReader::new`] refuses the bytes; and Schema where the file's is not the table's, field for field.
+pub(crate) fn gather_bytes<'a>(
+    alloc: Global,
+    table: &'a Manifest,
+    options: &WriteOptions,
+    bytes: &[u8],
+) -> R<Gathered<'a>>
+    ensures read { IfOk result (IsReadFor (root_of table.now) options.now bytes.now) }
+    ensures which { IfErr result (IsNotRead (root_of table.now).schema bytes.now) }
+{
+    let file = FileReader::new(alloc, bytes)?;
+    if !same_schema(file.schema(), table.schema()) {
+        return Err(Refusal::Schema);
+    }
+    let gathered = gather_file(alloc, table, options, &file)?;
+    Ok(gathered)
+}
+
+/// The rows of a file that was accepted, gathered for a table that they fit. No row is made. It fails only when out of memory.
+fn gather_file<'a>(
+    alloc: Global,
+    table: &'a Manifest,
+    options: &WriteOptions,
+    file: &FileReader<'_>,
+) -> R<Gathered<'a>>
+    ensures held { IfOk result (λ g. (rows : List ValueTrees) → rows_of_file file.now rows → RowsFit (root_of table.now).schema rows → holds g rows) }
+    ensures table { IfOk result (AreGatheredFor (root_of table.now) options.now) }
+    ensures only { (rows : List ValueTrees) → rows_of_file file.now rows → RefusedMemoryOnly result }
+{
+    let mut gathered = begin_gathering(alloc, table, options)?;
+    let mut rows = file.rows(alloc);
+    'rows: for _ in 0..u64::MAX {
+        if !gather_next(&mut rows, &mut gathered)? {
+            return Ok(gathered);
+        }
+    }
+    // Never reached: no file has as many rows.
+    Err(Refusal::Memory)
+}
+
+/// Gathers the next row of a file too. False after the last one, and then the same rows are gathered.
+#[inline]
+fn gather_next(rows: &mut Rows<'_>, gathered: &mut Gathered<'_>) -> R<bool>
+    ensures takes { GathersNext (rows_stand rows.old) (rows_stand rows.new) gathered.old gathered.new result }
+    ensures same { result ≡ Ok false → gathered.new ≡ gathered.old }
+    ensures table { KeepsTable gathered.old gathered.new }
+{
+    gathered.begin_row();
+    if !rows.next_to(gathered)? {
+        return Ok(false);
+    }
+    gathered.end_row()?;
+    Ok(true)
+}

@@ -1,0 +1,23 @@
+//! Changes of a table that are one call: appends, imports, removals, new columns.
+#![tactic(auto)]
+
+mod appending;
+mod appending_gathered;
+mod bringing;
+mod columns;
+mod comparing;
+mod dropping;
+mod gathered_rows;
+mod importing;
+mod remaining;
+mod removing;
+mod root_limit;
+mod widening;
+
+pub use appending::append;
+pub use appending_gathered::append_gathered;
+pub use columns::add_column;
+pub use dropping::remove_groups;
+pub use gathered_rows::begin_gathering;
+pub use importing::import;
+pub use removing::remove;

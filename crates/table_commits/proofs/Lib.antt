@@ -1,0 +1,41 @@
+pub mod SparedDisks
+pub mod FilesInUse
+pub mod StoredStays
+pub mod JobsAfterCommits
+pub mod SoundDisks
+pub mod StateCarriedOver
+pub mod PartFilesWritten
+mod SmallerGroups
+pub mod OpenNumbers
+pub mod FilesSoFar
+mod SwappedRoots
+pub mod AfterCleanings
+mod CommitSteps
+pub mod OneCallMore
+pub mod UnchangedRefusals
+pub mod CommitsFromParts
+pub mod HeavyRoots
+pub mod PlannedWeights
+pub mod NumbersHad
+pub mod SomeGroups
+pub mod GroupRemovals
+pub mod AppendCommits
+pub mod OtherJobsAndCursors
+pub mod JobsChanged
+mod CopiedRows
+pub mod RowsWithoutKeys
+pub mod KeyOrder
+mod WaitingPlaces
+pub mod GroupsByKey
+pub mod OneFileMore
+pub mod WaitingRows
+pub mod RowsOfOneKey
+pub mod OneRowMore
+pub mod RowsFillGroups
+pub mod RestsByKey
+pub mod TakenRows
+pub mod DistinctNumbers
+pub mod NumbersOfJobs
+mod NothingOpen
+pub mod FreePaths
+pub mod RowsInBuffers

@@ -1,0 +1,13 @@
+pub mod Writing
+pub mod Wide
+pub mod Committing
+pub mod Cleaning
+pub mod Keeping
+pub mod Acting
+pub mod Weighing
+pub mod Causes
+pub mod Dropping
+pub mod Bringing
+pub mod Filling
+pub mod Gathering
+pub mod Showing

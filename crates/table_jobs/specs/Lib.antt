@@ -1,0 +1,3 @@
+pub mod Staging
+pub mod Completing
+pub mod Rewritten

@@ -1,0 +1,126 @@
+use Rattle.std.proofs.Common.{ℕ, List, Option, None, Result, refl, sym, subst}
+use Rattle.bits.specs.declared.refusal.Refusal.{Refusal}
+use Rattle.bits.specs.declared.refusal.Refusal.TheVariants.{Closed, NoCursor}
+use Rattle.vault.proofs.Chained.{refused}
+use Rattle.table.specs.Calls.{Answer, fetch, ended, refused as refused_by}
+use Rattle.table_reads.specs.declared.passing.FetchedRows.{FetchedRows}
+use Rattle.table_reads.specs.Passing.{FetchReads}
+use Rattle.table_reads.specs.Shown.{AreShown, IsShownAs}
+use Rattle.table_reads.proofs.MovedCursors.{written_back}
+use Rattle.table_state.specs.Promises.{Acts, ActsFrom}
+use Rattle.table_commits.proofs.UnchangedRefusals.{acts_shut}
+use Rattle.table_reads.proofs.FetchesWithoutCursor.{fetch_none, fetch_over}
+use Rattle.table_reads.proofs.FetchesGoOn.{seen, at_of, none_at, poor, memory_so, refused_so, went, reads_over, reads_went, reads_stopped}
+use Rattle.table_reads.proofs.ShownRows.{over_is, shown_answer, shown_some}
+use Rattle.table_reads.proofs.FilesLeftAlone.{same, only_read}
+use Rattle.table_reads.proofs.cursors.fetch_rows.Goals as goal
+
+pub returns-then-store-clause-shown : goal.returns-then-store-clause-shown
+returns-then-store-clause-shown g c = (refused_by Closed, refl)
+
+pub returns-in-None-clause-shown : goal.returns-in-None-clause-shown
+returns-in-None-clause-shown g c = (refused_by NoCursor, refl)
+
+pub returns-then-open-clause-shown : goal.returns-then-open-clause-shown
+returns-then-open-clause-shown g c = (ended, refl)
+
+pub returns-in_err-reached-in-Some-clause-shown : goal.returns-in_err-reached-in-Some-clause-shown
+returns-in_err-reached-in-Some-clause-shown g c = refused (λ (r : Result (Option FetchedRows) Refusal). (answer : Answer) × IsShownAs r answer) c.from_residual.result c.in_err-reached-in-Some.field-0.0 c.from_residual.ensures.1 (refused_by c.in_err-reached-in-Some.field-0.0, refl)
+
+pub returns-in_err-fetched-in-Some-clause-shown : goal.returns-in_err-fetched-in-Some-clause-shown
+returns-in_err-fetched-in-Some-clause-shown g c =
+    refused (λ (r : Result (Option FetchedRows) Refusal). (answer : Answer) × IsShownAs r answer) c.from_residual-in_err-fetched-in-Some.result c.in_err-fetched-in-Some.field-0.0 c.from_residual-in_err-fetched-in-Some.ensures.1 (refused_by c.in_err-fetched-in-Some.field-0.0, refl)
+
+pub returns-in_ok-fetched-in-Some-clause-shown : goal.returns-in_ok-fetched-in-Some-clause-shown
+returns-in_ok-fetched-in-Some-clause-shown g c =
+    let rows = c.in_ok-reached-in-Some.ensures.accepted in
+    shown_some c.as_slice-in-Some.result.now c.in_ok-reached-in-Some.reached.rows c.in_ok-fetched-in-Some.fetched c.in_ok-fetched-in-Some.ensures.made rows.0 rows.1
+
+pub returns-then-store-clause-acts : goal.returns-then-store-clause-acts
+returns-then-store-clause-acts g c answer is = subst (Acts g.D.Disk.state c.args.store.now c.args.store.now (fetch c.args.cursor)) (sym is) (acts_shut g.D.Disk.state c.args.store.now (fetch c.args.cursor) refl c.if-store.true)
+
+pub returns-in-None-clause-acts : goal.returns-in-None-clause-acts
+returns-in-None-clause-acts g c answer is =
+    subst (Acts g.D.Disk.state c.args.store.now c.args.store.now (fetch c.args.cursor)) (sym is)
+    (fetch_none g.D.Disk.state c.args.store.now c.args.cursor c.if-store.false
+    (none_at c.args.cursor c.find_cursor.result (λ x. x.now) c.as_slice.result.now c.args.store.now.cursors.items c.in-None.is c.find_cursor.ensures c.as_slice.ensures.value))
+
+pub returns-then-open-clause-acts : goal.returns-then-open-clause-acts
+returns-then-open-clause-acts g c answer is =
+    subst (Acts g.D.Disk.state c.args.store.now c.args.store.now (fetch c.args.cursor)) (sym is)
+    (fetch_over g.D.Disk.state c.args.store.now c.args.cursor c.if-store.false c.in-Some.open.now
+    (at_of c.args.cursor c.find_cursor.result c.in-Some.open (λ x. x.now) c.as_slice.result.now c.args.store.now.cursors.items c.in-Some.is c.find_cursor.ensures c.as_slice.ensures.value) c.if-open.true)
+
+pub returns-then-open-clause-reads : goal.returns-then-open-clause-reads
+returns-then-open-clause-reads g c = reads_over g.D.Disk.state c.args.store.now c.args.cursor c.in-Some.open.now
+    (at_of c.args.cursor c.find_cursor.result c.in-Some.open (λ x. x.now) c.as_slice.result.now c.args.store.now.cursors.items c.in-Some.is c.find_cursor.ensures c.as_slice.ensures.value) None
+
+pub returns-in_err-reached-in-Some-clause-acts : goal.returns-in_err-reached-in-Some-clause-acts
+returns-in_err-reached-in-Some-clause-acts g c answer is honest s stands =
+    let old = c.args.store.now in
+    let at = at_of c.args.cursor c.find_cursor.result c.in-Some.open (λ x. x.now) c.as_slice.result.now old.cursors.items c.in-Some.is c.find_cursor.ensures c.as_slice.ensures.value in
+    let leaves = c.in_err-reached-in-Some.ensures.effect.unchanged honest in
+    let z = seen g.D.Disk.state old c.args.cursor c.if-store.false s stands c.in-Some.open.now at c.if-open.false c.next_rows.new.vault leaves in
+    refused (λ (r : Result (Option FetchedRows) Refusal). IsShownAs r answer → ActsFrom g.D.Disk.state old (record old { vault = c.next_rows.new.vault }) (fetch c.args.cursor) answer s) c.from_residual.result c.in_err-reached-in-Some.field-0.0 c.from_residual.ensures.1
+    (λ told. subst (λ (a : Answer). ActsFrom g.D.Disk.state old (record old { vault = c.next_rows.new.vault }) (fetch c.args.cursor) a s) (sym told)
+    (refused_so g.D.Disk.state old c.args.cursor c.if-store.false s stands c.in-Some.open.now at c.if-open.false c.next_rows.new.vault leaves c.in_err-reached-in-Some.field-0.0
+    (c.in_err-reached-in-Some.ensures.only honest s.table.keys s.next_group (c.args.cursor, z.0) z.2))) is
+
+pub returns-in_err-reached-in-Some-clause-reads : goal.returns-in_err-reached-in-Some-clause-reads
+returns-in_err-reached-in-Some-clause-reads g c =
+    let old = c.args.store.now in
+    let at = at_of c.args.cursor c.find_cursor.result c.in-Some.open (λ x. x.now) c.as_slice.result.now old.cursors.items c.in-Some.is c.find_cursor.ensures c.as_slice.ensures.value in
+    refused (λ (r : Result (Option FetchedRows) Refusal). FetchReads g.D.Disk.state old (record old { vault = c.next_rows.new.vault }) c.args.cursor r) c.from_residual.result c.in_err-reached-in-Some.field-0.0 c.from_residual.ensures.1
+    (reads_stopped g.D.Disk.state old c.args.cursor c.in-Some.open.now at c.next_rows.new.vault c.in_err-reached-in-Some.field-0.0 c.in_err-reached-in-Some.ensures.goes)
+
+pub returns-in_err-fetched-in-Some-clause-acts : goal.returns-in_err-fetched-in-Some-clause-acts
+returns-in_err-fetched-in-Some-clause-acts g c answer is honest s stands =
+    let old = c.args.store.now in
+    let at = at_of c.args.cursor c.find_cursor.result c.in-Some.open (λ x. x.now) c.as_slice.result.now old.cursors.items c.in-Some.is c.find_cursor.ensures c.as_slice.ensures.value in
+    refused (λ (r : Result (Option FetchedRows) Refusal). IsShownAs r answer → ActsFrom g.D.Disk.state old (record old { vault = c.next_rows.new.vault }) (fetch c.args.cursor) answer s) c.from_residual-in_err-fetched-in-Some.result c.in_err-fetched-in-Some.field-0.0 c.from_residual-in_err-fetched-in-Some.ensures.1
+    (λ told. subst (λ (a : Answer). ActsFrom g.D.Disk.state old (record old { vault = c.next_rows.new.vault }) (fetch c.args.cursor) a s) (sym told)
+    (memory_so c.in_err-fetched-in-Some.field-0.0 c.in_err-fetched-in-Some.ensures.which (λ e. ActsFrom g.D.Disk.state old (record old { vault = c.next_rows.new.vault }) (fetch c.args.cursor) (refused_by e) s)
+    (poor g.D.Disk.state old c.args.cursor c.if-store.false s stands c.in-Some.open.now at c.if-open.false c.next_rows.new.vault (c.in_ok-reached-in-Some.ensures.effect.unchanged honest)))) is
+
+pub returns-in_err-fetched-in-Some-clause-reads : goal.returns-in_err-fetched-in-Some-clause-reads
+returns-in_err-fetched-in-Some-clause-reads g c =
+    let old = c.args.store.now in
+    let at = at_of c.args.cursor c.find_cursor.result c.in-Some.open (λ x. x.now) c.as_slice.result.now old.cursors.items c.in-Some.is c.find_cursor.ensures c.as_slice.ensures.value in
+    refused (λ (r : Result (Option FetchedRows) Refusal). FetchReads g.D.Disk.state old (record old { vault = c.next_rows.new.vault }) c.args.cursor r) c.from_residual-in_err-fetched-in-Some.result c.in_err-fetched-in-Some.field-0.0 c.from_residual-in_err-fetched-in-Some.ensures.1
+    (reads_stopped g.D.Disk.state old c.args.cursor c.in-Some.open.now at c.next_rows.new.vault c.in_err-fetched-in-Some.field-0.0 (λ version k e. (c.in_ok-reached-in-Some.reached.passed, c.in_ok-reached-in-Some.ensures.goes version k e)))
+
+pub returns-in_ok-fetched-in-Some-clause-acts : goal.returns-in_ok-fetched-in-Some-clause-acts
+returns-in_ok-fetched-in-Some-clause-acts g c answer is honest s stands =
+    let old = c.args.store.now in
+    let at = at_of c.args.cursor c.find_cursor.result c.in-Some.open (λ x. x.now) c.as_slice.result.now old.cursors.items c.in-Some.is c.find_cursor.ensures c.as_slice.ensures.value in
+    let reached = c.in_ok-reached-in-Some.reached in
+    let rows = shown_answer c.in-Some.open.now.places.items reached.rows c.in_ok-fetched-in-Some.fetched (subst (λ (ps : List ℕ). AreShown ps reached.rows c.in_ok-fetched-in-Some.fetched) c.as_slice-in-Some.ensures.value c.in_ok-fetched-in-Some.ensures.made) answer is in
+    went g.D.Disk.state old c.args.cursor c.if-store.false s stands c.in-Some.open.now at c.if-open.false c.next_rows.new.vault (c.in_ok-reached-in-Some.ensures.effect.unchanged honest) reached.passed rows.0
+    (λ d z. c.in_ok-reached-in-Some.ensures.stands honest s.table.keys s.next_group d z rows.0 rows.1) c.is_none-ended.result (over_is reached.rows c.is_none-ended.result c.is_none-ended.ensures rows.0 rows.1) _
+    (written_back c.args.cursor reached.passed c.is_none-ended.result old.cursors.len old.cursors.items c.as_mut_slice.result.now c.move_cursor.new.cursors _ old.cursors.ok.0 c.as_mut_slice.ensures.value c.move_cursor.ensures)
+    answer rows.2
+
+pub returns-in_ok-fetched-in-Some-clause-reads : goal.returns-in_ok-fetched-in-Some-clause-reads
+returns-in_ok-fetched-in-Some-clause-reads g c =
+    let old = c.args.store.now in
+    let at = at_of c.args.cursor c.find_cursor.result c.in-Some.open (λ x. x.now) c.as_slice.result.now old.cursors.items c.in-Some.is c.find_cursor.ensures c.as_slice.ensures.value in
+    reads_went g.D.Disk.state old c.args.cursor c.in-Some.open.now at c.next_rows.new.vault _ c.in_ok-reached-in-Some.reached.passed c.is_none-ended.result c.in_ok-fetched-in-Some.fetched
+    (written_back c.args.cursor c.in_ok-reached-in-Some.reached.passed c.is_none-ended.result old.cursors.len old.cursors.items c.as_mut_slice.result.now c.move_cursor.new.cursors _ old.cursors.ok.0 c.as_mut_slice.ensures.value c.move_cursor.ensures) c.in_ok-reached-in-Some.ensures.goes
+
+pub returns-then-store-clause-leaves : goal.returns-then-store-clause-leaves
+returns-then-store-clause-leaves g c = same g.D.Disk.state c.args.store.now
+
+pub returns-in-None-clause-leaves : goal.returns-in-None-clause-leaves
+returns-in-None-clause-leaves g c = same g.D.Disk.state c.args.store.now
+
+pub returns-then-open-clause-leaves : goal.returns-then-open-clause-leaves
+returns-then-open-clause-leaves g c = same g.D.Disk.state c.args.store.now
+
+pub returns-in_err-reached-in-Some-clause-leaves : goal.returns-in_err-reached-in-Some-clause-leaves
+returns-in_err-reached-in-Some-clause-leaves g c = only_read g.D.Disk.state c.args.store.now (record c.args.store.now { vault = c.next_rows.new.vault }) c.in_err-reached-in-Some.ensures.effect.unchanged refl
+
+pub returns-in_err-fetched-in-Some-clause-leaves : goal.returns-in_err-fetched-in-Some-clause-leaves
+returns-in_err-fetched-in-Some-clause-leaves g c = only_read g.D.Disk.state c.args.store.now (record c.args.store.now { vault = c.next_rows.new.vault }) c.in_ok-reached-in-Some.ensures.effect.unchanged refl
+
+pub returns-in_ok-fetched-in-Some-clause-leaves : goal.returns-in_ok-fetched-in-Some-clause-leaves
+returns-in_ok-fetched-in-Some-clause-leaves g c = only_read g.D.Disk.state c.args.store.now _ c.in_ok-reached-in-Some.ensures.effect.unchanged refl

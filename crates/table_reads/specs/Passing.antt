@@ -1,0 +1,127 @@
+-- Which groups a cursor passes, what it comes to, and how often it reads for them.
+use Rattle.std.specs.Prelude.{◌≡◌, ◌≢◌, ◌≤◌, ◌+◌, ◌-◌, ℕ, Bool, if◌then◌else◌, ◌==◌, List, [], ◌∷◌, ◌++◌, drop, length, Option, Some, None, false, Result, Ok, Err}
+use Rattle.bits.specs.declared.refusal.Refusal.{Refusal}
+use Rattle.schema.specs.Shape.{Fields}
+use Rattle.schema.specs.Keys.{KeyColumn, AreKeys}
+use Rattle.disk.specs.State.{State as DiskState}
+use Rattle.filter.specs.Test.{Test, tests_in}
+use Rattle.filter.specs.Deciding.{satisfies as all_satisfied}
+use Rattle.manifest.specs.Groups.{Group as FileGroup, root_of}
+use Rattle.scan.specs.declared.group_rows.GroupRows.{GroupRows}
+use Rattle.scan.specs.Cost.{chunks_read}
+use Rattle.scan.specs.Left.{rows_held}
+use Rattle.scan.specs.Selected.{IsRuledOut}
+use Rattle.snapshots.specs.State.{open_at}
+use Rattle.snapshots.specs.Views.{state_of}
+use Rattle.table.specs.Table.{Row, Group}
+use Rattle.table.specs.declared.answer.Fetched.{Fetched}
+use Rattle.table.specs.Cursors.{Batch, batches_of}
+use Rattle.table_state.specs.declared.standing.Core.{Core}
+use Rattle.table_state.specs.declared.jobs.OpenCursor.{OpenCursor}
+use Rattle.table_reads.specs.declared.passing.Reached.{Reached}
+use Rattle.table_state.specs.Lookups.{cursor_at}
+
+-- ---- what it comes to
+
+-- the rows of a group as a batch, where there are any
+abbrev pub batches_with : List ℕ → List Row → List Batch
+batches_with places [] = []
+batches_with places (row ∷ rows) = record { places = places; rows = row ∷ rows } ∷ []
+
+-- the batches of these groups from a place on
+abbrev pub batches_from : OpenCursor → List Group → ℕ → List Batch
+batches_from c groups from = batches_of (all_satisfied (tests_in c.filter)) c.places.items (drop from groups)
+
+-- the rows that a cursor comes to: those that were read and accepted, of which there is one, or none
+abbrev pub AreReached : Option GroupRows → List Row → Type 0
+AreReached None rows = rows ≡ []
+AreReached (Some g) rows = rows_held g rows × (rows ≢ [])
+
+-- A cursor has passed so many groups. These rows are the next batch, and the others are those of the groups that are not passed
+-- then; where there are no rows, none is left.
+pub record Comes (c : OpenCursor) (groups : List Group) (passed : ℕ) (rows : List Row) : Type 0 where
+  pub batches : batches_from c groups c.passed ≡ batches_with c.places.items rows ++ batches_from c groups passed
+  pub none : rows ≡ [] → batches_from c groups passed ≡ []
+
+-- a cursor that passed so many groups, and has answered its end or not
+abbrev pub moved : ℕ → Bool → OpenCursor → OpenCursor
+moved passed ended c = record c { passed = passed; ended = ended }
+
+-- cursors of which the first of this number passed so many groups, and has answered its end or not
+abbrev pub moved_at : ℕ → ℕ → Bool → List OpenCursor → List OpenCursor
+moved_at n passed ended [] = []
+moved_at n passed ended (c ∷ cs) = if c.number == n then moved passed ended c ∷ cs else c ∷ moved_at n passed ended cs
+
+-- ---- how often it reads
+
+-- (For rows that a filter satisfies, cut to the columns at these places, of a table with these keys and this schema.)
+module _ (tests : List (List Test)) (keys : List KeyColumn) (fs : Fields) (places : List ℕ) where
+  -- so many reads for a group: at most one for each chunk of a wanted or filtered column, none where it is ruled out
+  pub record AreReads (g : FileGroup) (n : ℕ) : Type 0 where
+    pub most : n ≤ chunks_read tests keys fs g places
+    pub none : IsRuledOut tests keys g → n ≡ 0
+
+  -- so many reads for these groups, each group's as many as are allowed for it
+  abbrev pub AreReadsOf : List FileGroup → ℕ → Type 0
+  AreReadsOf [] n = n ≡ 0
+  AreReadsOf (g ∷ gs) n = (here : ℕ) × (rest : ℕ) × AreReads g here × AreReadsOf gs rest × (n ≡ here + rest)
+
+  -- so many reads for the groups of a version from one place to another
+  pub record AreReadsFrom (version : List FileGroup) (from to n : ℕ) : Type 0 where
+    pub between : List FileGroup
+    pub are : drop from version ≡ between ++ drop to version
+    pub many : to ≡ from + length between
+    pub reads : AreReadsOf between n
+
+-- so many reads for the groups of a version from one place to another, by a cursor's filter and columns
+abbrev pub ReadsFrom : OpenCursor → List FileGroup → ℕ → ℕ → ℕ → Type 0
+ReadsFrom c version from to n = AreReadsFrom (tests_in c.filter) (root_of c.table).keys (root_of c.table).schema c.places.items version from to n
+
+-- A cursor went on to a place: the disk was read at most so often.
+pub record GoesTo (c : OpenCursor) (version : List FileGroup) (to : ℕ) (old new : DiskState) : Type 0 where
+  pub count : ℕ
+  pub most : ReadsFrom c version c.passed to count
+  pub no_more : new.reads ≤ old.reads + count
+  pub no_less : old.reads ≤ new.reads
+
+-- A cursor went on to the group that it gives, or on which it is refused: the disk was read at most so often.
+abbrev pub Goes : OpenCursor → List FileGroup → DiskState → DiskState → Result Reached Refusal → Type 0
+Goes c version old new (Ok r) = GoesTo c version r.passed old new
+Goes c version old new (Err e) = (to : ℕ) × GoesTo c version to old new
+
+-- a cursor's keys are its table's, and the versions hold this one for it
+pub record Sees {D : Type 0} (store : Core D) (c : OpenCursor) (version : List FileGroup) : Type 0 where
+  pub keys : AreKeys (root_of c.table).keys (root_of c.table).schema
+  pub held : open_at c.number (state_of store.snapshots).cursors ≡ Some version
+
+-- After a refusal the cursor stands where it was; else it is where it went to.
+abbrev pub Went : {D T : Type 0} → (D → DiskState) → Core D → Core D → ℕ → OpenCursor → List FileGroup → Result T Refusal → Type 0
+Went state old new n c version (Ok answer) = (d : OpenCursor) × (cursor_at n new.cursors.items ≡ Some d) × (d ≡ moved d.passed d.ended c) × GoesTo c version d.passed (state old.vault.disk) (state new.vault.disk)
+Went state old new n c version (Err e) = (cursor_at n new.cursors.items ≡ Some c) × ((to : ℕ) × GoesTo c version to (state old.vault.disk) (state new.vault.disk))
+
+-- One fetch of a cursor that is open. The versions hold what they held.
+pub record FetchReads {D T : Type 0} (state : D → DiskState) (old new : Core D) (n : ℕ) (result : Result T Refusal) : Type 0 where
+  pub same : new.snapshots ≡ old.snapshots
+  pub goes : (c : OpenCursor) (version : List FileGroup) → old.closed ≡ false → cursor_at n old.cursors.items ≡ Some c → Sees old c version → Went state old new n c version result
+  pub none : cursor_at n old.cursors.items ≡ None → (state new.vault.disk).reads ≡ (state old.vault.disk).reads
+
+-- ---- over a whole query
+
+-- Fetches of a cursor, one after another, none of which was refused, from one cursor to another: each one's reads.
+abbrev pub AreFetches : List FileGroup → OpenCursor → List ℕ → OpenCursor → Type 0
+AreFetches version c [] d = d ≡ c
+AreFetches version c (n ∷ ns) d = (passed : ℕ) × (ended : Bool) × (most : ℕ) × ReadsFrom c version c.passed passed most × (n ≤ most) × AreFetches version (moved passed ended c) ns d
+
+-- the sum of numbers
+abbrev pub sum_of : List ℕ → ℕ
+sum_of [] = 0
+sum_of (n ∷ ns) = n + sum_of ns
+
+-- The fetches of a query together read no more than is allowed for each group between, once: no needed chunk is read twice.
+abbrev pub QueriesReadOnce : Type 0
+QueriesReadOnce = (version : List FileGroup) (c d : OpenCursor) (ns : List ℕ) → AreFetches version c ns d → (most : ℕ) × ReadsFrom c version c.passed d.passed most × (sum_of ns ≤ most)
+
+-- A fetch that was not refused is the first of a query's fetches, where the others begin with the cursor that it leaves.
+abbrev pub FetchesFollow : {D : Type 0} → (D → DiskState) → Type 0
+FetchesFollow {D} state = (old new : Core D) (n : ℕ) (c d : OpenCursor) (version : List FileGroup) (answer : Fetched) (ns : List ℕ) → (first : Went {T = Fetched} state old new n c version (Ok answer)) → AreFetches version first.0 ns d
+    → AreFetches version c (((state new.vault.disk).reads - (state old.vault.disk).reads) ∷ ns) d

@@ -1,0 +1,9 @@
+pub mod Paths
+pub mod OnDisk
+pub mod Spares
+pub mod Lookups
+pub mod Stands
+pub mod Promises
+pub mod Checking
+pub mod Starting
+pub mod Buffers

@@ -1,0 +1,48 @@
+-- The words of the calls' contracts.
+use Rattle.std.specs.Prelude.{◌≡◌, ◌≤◌, ℕ, true, Result, Err}
+use Rattle.bits.specs.declared.refusal.Refusal.{Refusal}
+use Rattle.bits.specs.declared.refusal.Refusal.TheVariants.{Closed, InDoubt}
+use Rattle.disk.specs.State.{Image, State as DiskState}
+use Rattle.vault.specs.Calls.{HasFailed}
+use Rattle.table.specs.State.{State}
+use Rattle.table.specs.Calls.{Call, Answer}
+use Rattle.table.specs.Refusing.{Happens, is_failure}
+use Rattle.table.specs.Stops.{Survives}
+use Rattle.table_state.specs.declared.standing.Core.{Core}
+use Rattle.table_state.specs.OnDisk.{HoldsTable}
+use Rattle.table_state.specs.Stands.{Stands}
+
+-- no earlier moment changes, so what was said of one stays true
+pub record KeepsPast (old new : DiskState) : Type 0 where
+  pub later : old.moment ≤ new.moment
+  pub history : (m : ℕ) (image : Image) → m ≤ old.moment → new.images m image → old.images m image
+  pub keeps : (m : ℕ) (image : Image) → m ≤ old.moment → old.images m image → new.images m image
+
+-- From the one state the call gives this answer and leads to a state that the store then stands in. A stop at any
+-- moment of it leaves a table of the one or of the other.
+pub record ActsFrom {D : Type 0} (state : D → DiskState) (old new : Core D) (call : Call) (answer : Answer) (s : State) : Type 0 where
+  pub after : State
+  pub happens : Happens s call answer after
+  pub survives : Survives (state new.vault.disk).images HoldsTable (state old.vault.disk).moment (state new.vault.disk).moment s after
+  pub stands : Stands state new after
+  pub past : KeepsPast (state old.vault.disk) (state new.vault.disk)
+
+-- on an honest disk, from each state that the store stands in
+abbrev pub Acts : {D : Type 0} → (D → DiskState) → Core D → Core D → Call → Answer → Type 0
+Acts state old new call answer = (state old.vault.disk).honest → (s : State) → Stands state old s → ActsFrom state old new call answer s
+
+-- on an honest disk: an answer tells of a failed disk only where the disk failed within the call
+abbrev pub HasCause : {D : Type 0} → (D → DiskState) → Core D → Core D → Answer → Type 0
+HasCause state old new answer = (state old.vault.disk).honest → (s : State) → Stands state old s → is_failure answer ≡ true → HasFailed (state old.vault.disk) (state new.vault.disk)
+
+-- on any disk: a closed store refuses the call, and nothing changes
+abbrev pub StaysClosed : {D T : Type 0} → Core D → Core D → Result T Refusal → Type 0
+StaysClosed old new result = old.closed ≡ true → (result ≡ Err Closed) × (new ≡ old)
+
+-- a commit that is answered in doubt closes the store
+abbrev pub ClosesInDoubt : {D T : Type 0} → Core D → Result T Refusal → Type 0
+ClosesInDoubt new result = result ≡ Err InDoubt → new.closed ≡ true
+
+-- the call is not answered in doubt
+abbrev pub IsSure : {T : Type 0} → Result T Refusal → Type 0
+IsSure result = result ≡ Err InDoubt → ⊥
