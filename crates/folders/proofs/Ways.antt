@@ -25,7 +25,7 @@ plain_at [] all i lt = absurd (omega (arith, lt))
 plain_at (b ∷ name) all zero lt = all.0
 plain_at (b ∷ name) all (suc i) lt = plain_at name all.1 i (omega (arith, lt))
 
-is_name : (name : List ℕ) → IsPlainName name → IsName name
+pub is_name : (name : List ℕ) → IsPlainName name → IsName name
 is_name name is = record { some = is.some; plain = plain_at name is.plain }
 
 module _ (columns : List KeyColumn) (key : List ValueTree) (is : is_key columns key ≡ true) where

@@ -8,12 +8,12 @@ ghost use Rattle.partition.specs.Folders.{part_name_of};
 ghost use Rattle.folders.specs.Named.{IsIn};
 ghost use Rattle.folders.specs.Entries.{IsBelow, IsNoneBelow, IsStrayFile, IsNoStrayFile};
 
+use crate::named_parts::NamedParts;
 use bits::{R, Refusal};
 use disk::{Entry, Kind};
 use partition::{key_of, part_name, part_number};
 use schema::KeyColumn;
 use std::alloc::Global;
-use std::collections::HashSet;
 
 /// The path of a name in a folder.
 pub fn path_below(alloc: Global, folder: &str, name: &str) -> R<String>
@@ -51,12 +51,7 @@ pub fn key_folder(
 }
 
 /// The path of an entry of a key folder that is a part file and not among the named ones; None of another one.
-pub fn stray_at(
-    alloc: Global,
-    named: &HashSet<String>,
-    folder: &str,
-    entry: &Entry,
-) -> R<Option<String>>
+pub fn stray_at(alloc: Global, named: &NamedParts, folder: &str, entry: &Entry) -> R<Option<String>>
     ensures stands { IfOk result (λ found. MatchOption found (IsNoStrayFile (IsIn named.now) folder.now entry.now)
         (λ stray. IsStrayFile (IsIn named.now) folder.now entry.now (string_bytes stray))) }
     ensures which { RefusedMemoryOnly result }
@@ -71,22 +66,16 @@ pub fn stray_at(
 }
 
 /// The path of the part file with this number in a folder; None where it is among the named ones.
-fn unnamed_part(
-    alloc: Global,
-    named: &HashSet<String>,
-    folder: &str,
-    number: u64,
-) -> R<Option<String>>
+fn unnamed_part(alloc: Global, named: &NamedParts, folder: &str, number: u64) -> R<Option<String>>
     ensures stands { let path = path_in folder.now (part_name_of number) in
         IfOk result (λ found. MatchOption found (IsIn named.now path) (λ stray. (string_bytes stray ≡ path) × (IsIn named.now path → ⊥))) }
     ensures fits { number < 2 ^ 64 }
     ensures which { RefusedMemoryOnly result }
 {
+    if named.has(folder, number) {
+        return Ok(None);
+    }
     let name = part_name(alloc, number)?;
     let path = path_below(alloc, folder, name.as_str())?;
-    if named.contains(path.as_str()) {
-        Ok(None)
-    } else {
-        Ok(Some(path))
-    }
+    Ok(Some(path))
 }

@@ -3,7 +3,6 @@ use Rattle.std.proofs.Common.{◌≡◌, ◌≢◌, ◌<◌, ◌≤◌, ◌+◌,
 use Rattle.std.specs.Prelude.{Result, Ok, Err, OnOk, is_ok}
 use Rattle.std.specs.List.{slice_get}
 use Rattle.std.specs.declared.alloc.Global.{Global}
-use Rattle.std.specs.HashSet.{HashSet}
 use Rattle.std.proofs.lemmas.Bool.{cases_lt, false≢true}
 use Rattle.std.proofs.lemmas.Option.{slice_get-get_or, slice_get_within, same_Some}
 use Rattle.lists.proofs.Slices.{map_take as map_taken}
@@ -25,6 +24,7 @@ use Rattle.partition.proofs.Nested.{fewer_can_partition, folders_nest}
 use Rattle.manifest.specs.Groups.{Root}
 use Rattle.schema.specs.Keys.{key_columns_view, key_column_view}
 use Rattle.schema.specs.declared.key.KeyColumn.{KeyColumn as CodeKeyColumn}
+use Rattle.folders.specs.declared.named_parts.NamedParts.{NamedParts}
 use Rattle.folders.specs.Named.{IsNamed, IsIn, AreNamed}
 use Rattle.folders.specs.Entries.{IsKeyFolder, path_at, IsPartEntry, IsNoneBelow, IsStrayFile}
 use Rattle.recovery.specs.Opening.{IsPartPath, IsLitter, IsClean}
@@ -47,7 +47,7 @@ part_path root folder entry key part = (
 )
 
 -- what is not among the paths that the root names is litter
-pub stray_is_litter : {S : Type 0} (root : Root) (named : HashSet (String Global) S) → AreNamed root named → (folder : List ℕ) (entry : Entry) (stray : String Global)
+pub stray_is_litter : (root : Root) (named : NamedParts) → AreNamed root named → (folder : List ℕ) (entry : Entry) (stray : String Global)
     → IsStrayFile (IsIn named) folder entry (string_bytes stray) → IsLitterAt root folder entry stray
 stray_is_litter root named are folder entry stray is = (is.0, is.1, λ by_root. is.2 ((are (path_at folder entry)).1 by_root))
 

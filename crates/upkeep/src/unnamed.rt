@@ -9,7 +9,7 @@ ghost use Rattle.upkeep.specs.inner.Walk.{paths_of};
 use crate::walk::strays;
 use bits::{R, Refusal};
 use disk::{Disk, Fault};
-use folders::named_paths;
+use folders::NamedParts;
 use manifest::Manifest;
 use std::alloc::Global;
 use vault::Vault;
@@ -29,7 +29,7 @@ pub fn leftovers<D: Disk>(
     ensures stands { (D.state vault.old.disk).honest → IfOk result (λ paths. AreLeftovers (D.state vault.old.disk).seen (root_of manifest.now) (paths_of paths)) }
     ensures effect { Looks 0 (D.state vault.old.disk) (D.state vault.new.disk) }
 {
-    let named = named_paths(alloc, manifest)?;
+    let named = NamedParts::of(alloc, manifest)?;
     strays(alloc, vault, manifest.keys(), &named)
 }
 

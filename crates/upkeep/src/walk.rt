@@ -12,10 +12,9 @@ ghost use Rattle.upkeep.specs.inner.Walk.{FindsFile, FindsFiles, FindsBelow, Fin
 
 use bits::{R, Refusal};
 use disk::{Disk, Entry};
-use folders::{key_folder, stray_at};
+use folders::{NamedParts, key_folder, stray_at};
 use schema::KeyColumn;
 use std::alloc::Global;
-use std::collections::HashSet;
 use vault::Vault;
 
 /// The paths of the part files in the folders of these key columns that are not among the named ones. Other files are not
@@ -26,7 +25,7 @@ pub(crate) fn strays<D: Disk>(
     alloc: Global,
     vault: &mut Vault<D>,
     keys: &[KeyColumn],
-    named: &HashSet<String>,
+    named: &NamedParts,
 ) -> R<Vec<String>>
     ensures stands { (D.state vault.old.disk).honest
         → IfOk result (λ found. AreStrays (D.state vault.old.disk).seen (key_columns_view keys.now) (IsIn named.now) (paths_of found)) }
@@ -44,7 +43,7 @@ fn find<D: Disk>(
     alloc: Global,
     vault: &mut Vault<D>,
     keys: &[KeyColumn],
-    named: &HashSet<String>,
+    named: &NamedParts,
     depth: usize,
     folder: &str,
     found: &mut Vec<String>,
@@ -85,7 +84,7 @@ fn find_below<D: Disk>(
     alloc: Global,
     vault: &mut Vault<D>,
     keys: &[KeyColumn],
-    named: &HashSet<String>,
+    named: &NamedParts,
     depth: usize,
     folder: &str,
     entry: &Entry,
@@ -108,7 +107,7 @@ fn find_below<D: Disk>(
 fn find_files(
     alloc: Global,
     keys: &[KeyColumn],
-    named: &HashSet<String>,
+    named: &NamedParts,
     folder: &str,
     entries: &[Entry],
     found: &mut Vec<String>,
@@ -129,7 +128,7 @@ fn find_files(
 /// Adds the path of an entry of a key folder, where it is a stray.
 fn find_file(
     alloc: Global,
-    named: &HashSet<String>,
+    named: &NamedParts,
     folder: &str,
     entry: &Entry,
     found: &mut Vec<String>,
