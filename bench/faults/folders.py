@@ -258,11 +258,16 @@ def change_all(umask, **more):
     return all(status == 0 for status, _, _ in ended), ended
 
 
-for made, later, mode, folders in ((0o002, 0o077, 0o664, 0o775), (0o077, 0o002, 0o600, 0o700), (0o022, 0o777, 0o644, 0o755)):
+for made, later, mode, folders in ((0o002, 0o077, 0o664, 0o775), (0o077, 0o002, 0o600, 0o700), (0o022, 0o177, 0o644, 0o755)):
     new_table(umask=made)
     well, why = change_all(later)
     tell(f"made with umask {made:03o} and changed with {later:03o}: files keep {mode:o}, folders {folders:o}",
          well and all_access("t") == ({(mode, os.getegid())}, {(folders, os.getegid())}), (why, all_access("t")))
+for umask in (0o200, 0o400, 0o777):
+    new_table()
+    ended = called("append", "t", "c.jsonl", umask=umask)
+    tell(f"umask {umask:03o}, which takes rights from the owner: {'done by the superuser' if IS_ROOT else 'refused 25'}",
+         ended[0] == 0 and all_access("t")[0] == {(0o644, os.getegid())} if IS_ROOT else refusal(ended) == 25 and is_whole("t")[0], ended)
 if IS_ROOT:
     shutil.rmtree("t")
     called("create", "t", "schema.json", "k", umask=0o002)
@@ -291,6 +296,13 @@ if IS_ROOT:
 else:
     pass_over("other groups: only the superuser gives files to them")
 if HAS_STRACE:
+    new_table(umask=0o002)
+    called("append", "t", "rows.jsonl", umask=0o077, by=("strace", "-f", "-y", "-o", "trace", "-e", "trace=chmod,fchmodat,fsync,rename"))
+    with open("trace") as file:
+        made = [line.split(" ", 1)[1].strip() for line in file]
+    new = sorted({path for path in files_of("t") if path[-9:-8] in "23"} | {"t/_metadata.new"})
+    order = {path: [line[:5] for line in made if f'("{path}", 0664)' in line or line.startswith("fsync") and line.split(">)")[0].endswith(f"/{path}")] for path in new}
+    tell("the mode of a new file is set before it is synced", len(order) == 3 and all(it == ["chmod", "fsync"] for it in order.values()), (order, made))
     # The modes differ by the umask, and the group by that of the root.
     for error in ("EPERM", "EIO", "EROFS"):
         new_table(umask=0o002)
