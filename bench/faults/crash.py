@@ -657,12 +657,20 @@ class OfCommand:
     def is_noticed(self, room, found, left_out):
         disk = Disk(folder_from(self.tree), room)
         for at, call in enumerate(found):
-            if at != left_out and disk.make(call) and not self.are_allowed(disk, self.command.meanwhile):
+            if at != left_out and disk.make(call) and not self.are_allowed(disk, self.command.meanwhile, False):
                 return True
-        return not self.are_allowed(disk, self.command.tables[-1:])
+        return not self.are_allowed(disk, self.command.tables[-1:], True)
 
-    def are_allowed(self, disk, allowed):
-        return all(self.tries.holds(tree) in allowed for tree in images(disk.top))
+    def are_allowed(self, disk, allowed, is_done):
+        return all(self.tries.holds(tree) in allowed and self.may_be_given(tree, is_done) for tree in images(disk.top))
+
+    def may_be_given(self, tree, is_done):
+        """Whether the folder of the answer has no cut file, and once all is done each of its files."""
+        if self.command.gives is None:
+            return True
+        whole, there = self.given(), self.files_in(tree)
+        named = {path: it for path, it in there.items() if path in whole}
+        return all(it == whole[path] for path, it in named.items()) and (not is_done or named == whole)
 
     # -- an allocation refused --
 

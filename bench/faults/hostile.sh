@@ -11,7 +11,7 @@
 # N is how many entries a page announces where it announces many (1000000; at most 4000000 for all files, as a footer has at
 # most 16 MiB). No call gets more than --most of address space (8192), so that a file cannot take all memory of the machine.
 # --limits are added to what a small file needs (4 32 256).
-# The files are made by python3, in a temporary folder, which is removed.
+# The files are made by python3, in a temporary folder, which is removed. It needs gcc, for peak.c, which starts the program.
 top=$(CDPATH='' cd -- "$(dirname -- "$0")/../.." && pwd) || exit 1
 program='' entries=1000000 most=8192 limits='4 32 256' names=''
 while [ $# -gt 0 ]; do
@@ -29,4 +29,5 @@ fi
 room=$(mktemp -d) || exit 1
 trap 'rm -rf "$room"' EXIT
 trap 'exit 130' INT TERM HUP
+gcc -O2 -o "$room/peak" "$top/bench/faults/peak.c" || exit 1
 PYTHONDONTWRITEBYTECODE=1 python3 "$top/bench/faults/hostile.py" "$top" "$room" "$program" "$entries" "$most" "$limits" "$names"

@@ -827,7 +827,25 @@ def lists_of_nothing():
     return of_lines('{"g":[' + ",".join(['{"x":[]}'] * 100) + "]}", max(1, ENTRIES // 1000), fields, 200)
 
 
-ROWS = [lines_of_nothing, list_in_one_line, lists_of_nothing]
+def lines_of_keys(columns):
+    """Rows of a key and so many numbers, each with a key of its own: the table gets a group for each."""
+    names = names_of(columns)
+    count = max(1, 8 * ENTRIES // 1000 // (columns + 1))
+    lines = b"".join(b'{"x":%d,%s}\n' % (number, b",".join(b'"%s":1' % name for name in names)) for number in range(count))
+    values = count * (columns + 1)
+    return File(lines, 0, X_INT64 + [field(name.decode(), "required", "int64") for name in names], kind="rows", rows=count, like="lines", entries=values,
+                values=values, keys=["x"], groups=count, cells=values)
+
+
+def key_in_each_line():
+    return lines_of_keys(1)
+
+
+def key_in_each_wide_line():
+    return lines_of_keys(20)
+
+
+ROWS = [lines_of_nothing, list_in_one_line, lists_of_nothing, key_in_each_line, key_in_each_wide_line]
 
 
 # ---- honest files, whose time is set beside that of the others
