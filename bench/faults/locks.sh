@@ -2,7 +2,7 @@
 # Tries commands on one dataset side by side, in a temporary folder, which is removed. Prints a line for each try; the status
 # is 1 where one fails.
 #
-#     bench/faults/locks.sh [PROGRAM]         this program in place of ./pqds
+#     bench/faults/locks.sh [PROGRAM]         with this program, or that of bench/tools/program.sh
 #
 # With ROWS=N datasets have N rows (20000), with TURNS=N there are N commits of each kind beside N queries (200). With OLD set to a
 # program without `_lock`, that one is tried beside this one. With pyarrow for python3 it reads the folder, too.
@@ -19,8 +19,14 @@
 #   other. The next such command makes it where it is not there, readable by all who can read the folder.
 # - An append that waits while another folder comes in the place of the dataset's waits for that one, and changes it alone.
 # - A dataset can be appended to itself through a pipe.
-. "$(dirname -- "$0")/room.sh"
-python3 - "$program" "$room" <<'PYTHON'
+top=$(CDPATH='' cd -- "$(dirname -- "$0")/../.." && pwd) || exit 1
+. "$top/bench/tools/usage.sh"
+no_options "$@"
+[ $# -le 1 ] || usage
+needs python3
+program=$(PQDS=${1:-$PQDS} "$top/bench/tools/program.sh") || exit 1
+make_room
+python3 -B - "$program" "$room" <<'PYTHON'
 import fcntl, json, os, pty, shutil, stat, subprocess, sys, threading, time
 
 program, room = sys.argv[1:]

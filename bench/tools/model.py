@@ -300,4 +300,8 @@ def main(number=10_000, seed=1):
         print(f"{text(call)} = {text(answer(model, call))}")
 
 
-main(*map(int, sys.argv[1:]))
+if __name__ == "__main__":
+    if len(sys.argv) > 3 or not all(it.isdigit() for it in sys.argv[1:]):
+        print(__doc__, file=sys.stderr)
+        sys.exit(2)
+    main(*map(int, sys.argv[1:]))
