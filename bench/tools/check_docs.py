@@ -154,6 +154,25 @@ def undescribed():
     return found
 
 
+def pages_of_bench():
+    """Files of bench/ that its pages do not name, files that they name and that are not there, and results of edits that are gone."""
+    wrong = []
+    for folder in sorted(os.listdir(os.path.join(TOP, "bench"))):
+        page = read("bench", folder, "README.md")
+        rows = [line.split("|")[1] for line in page.split("\n") if line.startswith("| `")]
+        words = set(re.findall(r"`([\w/]+(?:\.\w+)*)/?`", page))
+        named = {it for row in rows for it in re.findall(r"`([\w.]+)/?`", row)}
+        there = set(os.listdir(os.path.join(TOP, "bench", folder))) - {"README.md", "__pycache__"}
+        measured = {it for it in there if it.endswith(".rt.in") and it.replace(".rt.in", ".sh") in there}
+        wrong += [f"bench/{folder}/{it} is not named" for it in sorted(there - named - words - measured)]
+        wrong += [f"bench/{folder}/{it} does not exist" for it in sorted(named - there)]
+    edits = os.path.join(TOP, "bench", "tools", "edits")
+    for line in read("bench", "tools", "edits", "results.tsv").split("\n") if os.path.isfile(os.path.join(edits, "results.tsv")) else []:
+        if line and not line.startswith("#") and not os.path.isfile(os.path.join(edits, *line.split("\t")[:2]) + ".edit"):
+            wrong.append(f"results.tsv has {'/'.join(line.split(chr(9))[:2])}, which is no edit")
+    return wrong
+
+
 def versions():
     """The version as the program, the Python module and the changelog have it."""
     def found(pattern, *path):
@@ -226,6 +245,7 @@ def main():
         check(f"names in {document} that no source has", ", ".join(sorted(names - words)))
     check("names that docs/HEADLINE.md explains and its contracts do not reach", ", ".join(headline.foreign_names(headline.reached())))
     check("public definitions without a line that says what they are", "; ".join(undescribed()))
+    check("pages of bench/", "; ".join(pages_of_bench()))
     named = versions()
     check("one version", "" if len(set(named.values())) == 1 else ", ".join(f"{who} has {it}" for who, it in named.items()))
     for what, counted in (("lines of more than 165 columns", long_lines), ("definitions of one name in two crates", definitions),
