@@ -46,7 +46,7 @@ def tried(shim, program, line, jobs):
 
 
 def main():
-    words = argparse.ArgumentParser(description=__doc__)
+    words = argparse.ArgumentParser(description=__doc__, add_help=False)
     words.add_argument("--jobs", type=int, default=2)
     words.add_argument("shim")
     words.add_argument("program", nargs=argparse.REMAINDER)

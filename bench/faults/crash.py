@@ -738,7 +738,7 @@ def shown(tree):
 
 
 def arguments():
-    words = argparse.ArgumentParser(description=__doc__)
+    words = argparse.ArgumentParser(description=__doc__, add_help=False)
     words.add_argument("--jobs", type=int, default=2)
     words.add_argument("--beside", action="store_true")
     words.add_argument("--syncs", action="store_true")

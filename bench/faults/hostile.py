@@ -250,5 +250,6 @@ def main(top, room, program, entries, most, more, only):
 
 if __name__ == "__main__":
     if len(sys.argv) != 8:
-        sys.exit("hostile.py: bench/faults/hostile.sh runs this")
+        print("hostile.py: bench/faults/hostile.sh runs this", file=sys.stderr)
+        sys.exit(2)
     main(*sys.argv[1:])

@@ -4,8 +4,9 @@
 #
 #     bench/faults/locks.sh [PROGRAM]         with this program, or that of bench/tools/program.sh
 #
-# With ROWS=N datasets have N rows (20000), with TURNS=N there are N commits of each kind beside N queries (200). With OLD set to a
-# program without `_lock`, that one is tried beside this one. With pyarrow for python3 it reads the folder, too.
+# With ROWS=N datasets have N rows (20000; at least 5000, since a slow query must print more than a pipe holds). With TURNS=N there
+# are N commits of each kind next to N queries (200). With OLD set to a program without `_lock`, that one is tried next to this one.
+# With pyarrow for python3 it reads the folder, too.
 #
 # - Two appends that begin at once are both done.
 # - A query that reads slowly through an append, a removal, a rewrite, an import and an added column prints exactly the table that it
@@ -33,6 +34,8 @@ program, room = sys.argv[1:]
 os.chdir(room)
 ROWS = int(os.environ.get("ROWS", "20000"))
 TURNS = int(os.environ.get("TURNS", "200"))
+if ROWS < 5000:
+    sys.exit("locks.sh: ROWS is at least 5000: a slow query must print more than a pipe holds")
 LONGEST = 600
 failed = 0
 

@@ -9,6 +9,7 @@ import os
 import re
 import sys
 
+import command_line
 import headline
 
 TOP = os.path.dirname(os.path.dirname(os.path.dirname(os.path.abspath(__file__))))
@@ -217,6 +218,7 @@ def write(listed):
 
 
 def main():
+    command_line.only(__doc__, "--write")
     listed, faults, passed = crates(), [], 0
 
     def check(what, wrong):
@@ -239,10 +241,10 @@ def main():
         check(f"crates.txt, {crate}", ", ".join(f"{it} is cited nowhere" for it in idle))
         check(f"{crate} has a README.md", "" if os.path.isfile(os.path.join(CRATES, crate, "README.md")) else "no")
     check("crates that are no crate of crates.txt", ", ".join(sorted(set(os.listdir(CRATES)) - set(listed))))
-    words = set(re.findall(r"[\w\-]+", "\n".join(SOURCES.values()))) | set(listed) | set(re.findall(r"[\w\-]+", read("docs", "USAGE.md") + read("crates.txt")))
+    known = set(re.findall(r"[\w\-]+", "\n".join(SOURCES.values()))) | set(listed) | set(re.findall(r"[\w\-]+", read("docs", "USAGE.md") + read("crates.txt")))
     for document in ("README.md", "docs/PROMISES.md"):
         names = set(re.findall(r"`([a-zA-Z]\w+)`", read(document)))
-        check(f"names in {document} that no source has", ", ".join(sorted(names - words)))
+        check(f"names in {document} that no source has", ", ".join(sorted(names - known)))
     check("names that docs/HEADLINE.md explains and its contracts do not reach", ", ".join(headline.foreign_names(headline.reached())))
     check("public definitions without a line that says what they are", "; ".join(undescribed()))
     check("pages of bench/", "; ".join(pages_of_bench()))

@@ -14,6 +14,7 @@ import collections
 import contextlib
 import os
 import re
+import shutil
 import subprocess
 import sys
 import time
@@ -109,8 +110,8 @@ def main(words: list[str]) -> int:
     into = None
     if words[:1] == ["--into"]:
         into, words = words[1], words[2:]
-    if not words:
-        print(__doc__, file=sys.stderr)
+    if not words or shutil.which(words[0]) is None:
+        print((__doc__ or "").strip(), file=sys.stderr)
         return 2
     started = time.time()
     with subprocess.Popen(words) as run:

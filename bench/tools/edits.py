@@ -199,7 +199,7 @@ class Trial:
 
 
 def words_of(words: list[str]) -> argparse.Namespace:
-    parser = argparse.ArgumentParser(description=__doc__)
+    parser = argparse.ArgumentParser(description=__doc__, add_help=False)
     parser.add_argument("--text", action="store_true")
     parser.add_argument("--results", type=Path)
     parser.add_argument("--minutes", type=float, default=float("inf"))
