@@ -19,11 +19,11 @@ case $3 in
 esac
 program=$(PQDS=${2:-$PQDS} "$top/bench/tools/program.sh") || exit 1
 needs unshare chroot
-room=$(CDPATH='' cd -- "$1" 2>/dev/null && pwd)
-[ -n "$room" ] && [ -x "$room/usr/bin/python3" ] || {
+room=$(CDPATH='' cd -- "$1" 2>/dev/null && pwd) || room=/nowhere
+if [ ! -x "$room/usr/bin/python3" ]; then
     echo "python.sh: $1 is no such room: bench/peers/peers.sh makes one" >&2
     exit 1
-}
+fi
 mkdir -p "$room/opt/pqds-module" && cp --remove-destination -- "$program" "$room/opt/pqds-program" && chmod 755 "$room/opt/pqds-program" || exit 1
 here=/opt/pqds-module
 case $3 in

@@ -14,7 +14,6 @@ import headline
 
 TOP = os.path.dirname(os.path.dirname(os.path.dirname(os.path.abspath(__file__))))
 CRATES = os.path.join(TOP, "crates")
-TESTS = re.compile(r"_(cases|tests|bodies)$|^case_words$")
 COLUMNS = 165
 MOST = {"lines of more than 165 columns": 444, "definitions of one name in two crates": 295, "statements that stand twice": 115, "bodies that stand twice": 32}
 
@@ -48,6 +47,11 @@ def crates():
     return listed
 
 
+def crates_of_tests():
+    """Those of the section of crates.txt that begins with `# Tests`."""
+    return {line.split(":")[0].split()[0] for line in read("crates.txt").split("\n# Tests")[1].split("\n")[1:] if ":" in line}
+
+
 SOURCES = collections.defaultdict(str)
 for part, ending in (("src", ".rt"), ("specs", ".antt"), ("proofs", ".antt")):
     for crate, _, text in files(part, ending):
@@ -64,9 +68,8 @@ def layers(listed):
         return height[name]
 
     rows = collections.defaultdict(list)
-    for name in listed:
-        if not TESTS.search(name):
-            rows[of(name)].append(name)
+    for name in sorted(set(listed) - crates_of_tests()):
+        rows[of(name)].append(name)
     return [sorted(rows[it]) for it in sorted(rows, reverse=True)]
 
 
