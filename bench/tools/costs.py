@@ -77,13 +77,19 @@ class Costs:
 
     def note(self, number: str, fields: list[str]) -> None:
         """Notes what one process has used so far."""
+        minutes = (int(fields[11]) + int(fields[12])) / TICKS / 60
+        process = number, fields[19]
         call = text_of(f"/proc/{number}/cmdline").replace("\0", " ")
+        if not call and process in self.seen:
+            # It is ending, and has given up its memory, where its words were.
+            name, kind, _ = self.seen[process]
+            self.seen[process] = name, kind, minutes
+            return
         folder = os.readlink(f"/proc/{number}/cwd")
         crate = re.search(r"--crate-name (\w+)", call) or re.search(
             r"crates/(\w+)", f"{folder} {call}"
         )
-        minutes = (int(fields[11]) + int(fields[12])) / TICKS / 60
-        self.seen[number, fields[19]] = crate[1] if crate else ITSELF, kind_of(folder, call), minutes
+        self.seen[process] = crate[1] if crate else ITSELF, kind_of(folder, call), minutes
 
     def lines(self, order: list[str]) -> list[str]:
         """A line for each kind of work, with the crates in this order that have any, and the sum."""
