@@ -93,14 +93,14 @@ class Costs:
 
     def lines(self, order: list[str]) -> list[str]:
         """A line for each kind of work, with the crates in this order that have any, and the sum."""
-        costs: dict[str, collections.Counter[str]] = collections.defaultdict(collections.Counter)
+        costs: dict[str, dict[str, float]] = {it: collections.defaultdict(float) for it in KINDS}
         for name, kind, minutes in self.seen.values():
             costs[kind][name] += minutes
         lines = []
         for kind in KINDS:
             there = [it for it in [*order, ITSELF] if costs[kind][it] >= LEAST]
             parts = ", ".join(f"{it} {costs[kind][it]:.1f}" for it in there)
-            lines.append(f"{kind}: {costs[kind].total():.1f} processor minutes: {parts or 'none'}")
+            lines.append(f"{kind}: {sum(costs[kind].values()):.1f} processor minutes: {parts or 'none'}")
         return lines
 
     def total(self) -> float:
