@@ -1,6 +1,6 @@
 """allocations.py [--jobs N] SHIM PROGRAM..: runs the lines `allocations 1` and `allocations 2` of stop_cases with the Nth
 allocation refused, for each N. `bench/faults/allocations.sh` says what is looked at, and runs it."""
-import argparse, collections, concurrent.futures, os, re, subprocess, sys, tempfile
+import argparse, collections, concurrent.futures, os, re, shutil, subprocess, sys, tempfile
 
 LINE = re.compile(r"(allocations \d) = 28: (\d+), 25: (\d+), 26: (\d+), outside: (\d+), not allowed: (\d+)\n")
 KINDS = ("refused 28", "refused 25", "refused 26", "outside of a call")
@@ -46,11 +46,13 @@ def tried(shim, program, line, jobs):
 
 
 def main():
-    words = argparse.ArgumentParser()
+    words = argparse.ArgumentParser(description=__doc__, add_help=False)
     words.add_argument("--jobs", type=int, default=2)
     words.add_argument("shim")
     words.add_argument("program", nargs=argparse.REMAINDER)
     found = words.parse_args()
+    if not found.program or shutil.which(found.program[0]) is None:
+        words.error(f"there is no program {' '.join(found.program)}")
     wrong = sum(tried(found.shim, found.program, f"allocations {script}", found.jobs) for script in (1, 2))
     return 1 if wrong else 0
 

@@ -746,7 +746,7 @@ def shown(tree):
 
 
 def arguments():
-    words = argparse.ArgumentParser()
+    words = argparse.ArgumentParser(description=__doc__, add_help=False)
     words.add_argument("--jobs", type=int, default=2)
     words.add_argument("--beside", action="store_true")
     words.add_argument("--syncs", action="store_true")
@@ -754,7 +754,16 @@ def arguments():
     words.add_argument("program", nargs=argparse.REMAINDER)
     found = words.parse_args()
     at = found.program.index("--") if "--" in found.program else len(found.program)
-    return found, found.program[:at], found.program[at + 1:] or list(COMMANDS)
+    program, names = found.program[:at], found.program[at + 1:] or list(COMMANDS)
+    if not program or shutil.which(program[0]) is None:
+        words.error(f"there is no program {' '.join(program)}")
+    foreign = [it for it in names if it not in COMMANDS]
+    if foreign:
+        words.error(f"no command {foreign[0]!r}; there are: {'; '.join(COMMANDS)}")
+    for tool in [] if found.refuse else ["strace"]:
+        if shutil.which(tool) is None:
+            words.error(f"{tool} is not on the path")
+    return found, program, names
 
 
 def main():

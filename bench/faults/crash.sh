@@ -22,10 +22,10 @@
 #
 # With --syncs each sync is left out of the record of a command, one at a time: which of them a power failure shows to be needed.
 #
-# Takes some minutes. It needs strace and python3, and runs the program of this tree (./pqds), or where PROGRAM is set that one
-# (words with spaces between them). Prints a line for each command, and one for each thing that may not be; the status is 1 then.
+# Takes some minutes. It needs strace and python3, and runs the program of bench/tools/program.sh. With JOBS=N there are N commands
+# at a time (2). Prints a line for each command, and one for each thing that may not be; the status is 1 then.
 top=$(CDPATH='' cd -- "$(dirname -- "$0")/../.." && pwd) || exit 1
-command -v strace >/dev/null || { echo 'crash.sh: strace is not on the path' >&2; exit 1; }
+. "$top/bench/tools/usage.sh"
 mode=
 case $1 in
 --beside | --syncs)
@@ -33,8 +33,8 @@ case $1 in
     shift
     ;;
 esac
-if [ -z "$PROGRAM" ]; then
-    PROGRAM=$("$top/bench/tools/program.sh") || exit 1
-fi
+no_options "$@"
+needs strace python3
+program=$("$top/bench/tools/program.sh") || exit 1
 # shellcheck disable=SC2086
-exec python3 "$top/bench/faults/crash.py" --jobs "${JOBS:-2}" $mode $PROGRAM -- "$@"
+exec python3 -B "$top/bench/faults/crash.py" --jobs "${JOBS:-2}" $mode "$program" -- "$@"

@@ -65,7 +65,7 @@ class Bench:
 
     def make(self, name):
         """Makes a file, in a process of its own."""
-        subprocess.run([sys.executable, f"{self.top}/bench/faults/hostile_files.py", name, self.room, str(self.entries)], check=True)
+        subprocess.run([sys.executable, "-B", f"{self.top}/bench/faults/hostile_files.py", name, self.room, str(self.entries)], check=True)
         with open(f"{self.room}/{name}.facts") as file:
             return json.load(file)
 
@@ -221,11 +221,16 @@ def row_of(bench, facts, call, name, limits):
 
 
 def names_in(top, only):
-    listed = subprocess.run([sys.executable, f"{top}/bench/faults/hostile_files.py"], stdout=subprocess.PIPE, check=True, text=True).stdout.split()
-    return [name for name in listed if not only or name in only]
+    listed = subprocess.run([sys.executable, "-B", f"{top}/bench/faults/hostile_files.py"], stdout=subprocess.PIPE, check=True, text=True).stdout.split()
+    for name in only:
+        if name not in listed:
+            print(f"hostile.sh: no file {name}; there are: {' '.join(listed)}", file=sys.stderr)
+            sys.exit(2)
+    return only or listed
 
 
 def main(top, room, program, entries, most, more, only):
+    names = names_in(top, only.split())
     bench = Bench(top, room, program, int(entries), int(most) << 10)
     bench.make(SMALL)
     bench.least = bench.least_limit() if more else 0
@@ -233,7 +238,7 @@ def main(top, room, program, entries, most, more, only):
     bench.measure_honest()
     under = f"under limits of {', '.join(str(limit >> 10) for limit in limits)} MiB" if limits else ""
     print(f"{'file':38}{'bytes':>9} {'call':15}{'outcome':12}{'peak, MB':>9}{'bound':>9}{'s':>8}{'honest':>8}  {under}")
-    for name in names_in(top, only.split()):
+    for name in names:
         facts = bench.make(name)
         for call in CALLS[facts["kind"]]:
             row_of(bench, facts, call, name, limits)
@@ -245,4 +250,7 @@ def main(top, room, program, entries, most, more, only):
 
 
 if __name__ == "__main__":
+    if len(sys.argv) != 8:
+        print("hostile.py: bench/faults/hostile.sh runs this", file=sys.stderr)
+        sys.exit(2)
     main(*sys.argv[1:])

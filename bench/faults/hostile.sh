@@ -1,7 +1,7 @@
 #!/bin/sh
 # Decodes, inspects (as text and as JSON) and imports files that are made to cost as much as they can (bench/faults/hostile_files.py),
 # gives such files as the root of a dataset to count, query, check and create, and lines of JSON to append and encode,
-# and prints for each what came of it, the most memory beside its bound, and the processor time beside that of an honest file
+# and prints for each what came of it, the most memory next to its bound, and the processor time next to that of an honest file
 # with as many entries. Each call is then made under limits of address space (`ulimit -v`), and must end as before or with
 # `refused 28`; as before where the limit is twice its bound. The status is 1 where one does not end as it should, or takes
 # more memory or time than its bound; docs/FORMAT.md has the bounds.
@@ -13,21 +13,27 @@
 # --limits are added to what a small file needs (4 32 256).
 # The files are made by python3, in a temporary folder, which is removed. It needs gcc, for peak.c, which starts the program.
 top=$(CDPATH='' cd -- "$(dirname -- "$0")/../.." && pwd) || exit 1
-program='' entries=1000000 most=8192 limits='4 32 256' names=''
+. "$top/bench/tools/usage.sh"
+program=$PQDS entries=1000000 most=8192 limits='4 32 256' names=''
 while [ $# -gt 0 ]; do
     case $1 in
-    --program) program=$2 && shift 2 ;;
-    --entries) entries=$2 && shift 2 ;;
-    --most) most=$2 && shift 2 ;;
-    --limits) limits=$2 && shift 2 ;;
-    *) names="$names $1" && shift ;;
+    --program | --entries | --most | --limits) [ $# -ge 2 ] || usage ;;
+    -*) usage ;;
     esac
+    case $1 in
+    --program) program=$2 && shift ;;
+    --entries) entries=$2 && shift ;;
+    --most) most=$2 && shift ;;
+    --limits) limits=$2 && shift ;;
+    *) names="$names $1" ;;
+    esac
+    shift
 done
-if [ -z "$program" ]; then
-    program=$("$top/bench/tools/program.sh") || exit 1
-fi
-room=$(mktemp -d) || exit 1
-trap 'rm -rf "$room"' EXIT
-trap 'exit 130' INT TERM HUP
+# shellcheck disable=SC2086
+only_numbers "$entries" "$most" $limits
+needs python3
+needs gcc
+program=$(PQDS=$program "$top/bench/tools/program.sh") || exit 1
+make_room
 gcc -O2 -o "$room/peak" "$top/bench/faults/peak.c" || exit 1
-PYTHONDONTWRITEBYTECODE=1 python3 "$top/bench/faults/hostile.py" "$top" "$room" "$program" "$entries" "$most" "$limits" "$names"
+python3 -B "$top/bench/faults/hostile.py" "$top" "$room" "$program" "$entries" "$most" "$limits" "$names"

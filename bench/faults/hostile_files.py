@@ -1,8 +1,8 @@
 """Files that are made to cost a reader as much as they can: hostile_files.py NAME FOLDER [ENTRIES].
 
 Makes FOLDER/NAME.parquet, byte by byte, FOLDER/NAME.schema.json, and FOLDER/NAME.facts: what the file is and what is to
-come of it, as JSON. ENTRIES is how many entries a page announces where it announces many (1,000,000). Without a FOLDER
-the names are printed. (parquet-format, README.md, Encodings.md and parquet.thrift; Thrift's compact protocol.)"""
+come of it, as JSON. ENTRIES is how many entries a page announces where it announces many (1,000,000). Without words the names
+are printed. (parquet-format, README.md, Encodings.md and parquet.thrift; Thrift's compact protocol.)"""
 
 import json
 import os
@@ -945,20 +945,24 @@ NAMES = [
 ]
 
 
-def main(name=None, folder=None, entries=None):
+def main(name=None, folder=None, entries=ENTRIES):
     global ENTRIES
-    if folder is None:
+    made = {make.__name__: make for make in NAMES + HONEST}
+    if name is None:
         print("\n".join(make.__name__ for make in NAMES))
         return
-    ENTRIES = int(entries or ENTRIES)
-    made = {make.__name__: make for make in NAMES + HONEST}[name]()
+    if name not in made or folder is None or not os.path.isdir(folder) or not str(entries).isdigit():
+        print(__doc__, file=sys.stderr)
+        sys.exit(2)
+    ENTRIES = int(entries)
+    file_of = made[name]()
     with open(f"{folder}/{name}.parquet", "wb") as file:
-        file.write(made.bytes)
+        file.write(file_of.bytes)
     with open(f"{folder}/{name}.schema.json", "w") as file:
-        json.dump(made.fields, file)
+        json.dump(file_of.fields, file)
     with open(f"{folder}/{name}.facts", "w") as file:
-        json.dump(made.facts | {"bytes": len(made.bytes)}, file)
+        json.dump(file_of.facts | {"bytes": len(file_of.bytes)}, file)
 
 
 if __name__ == "__main__":
-    main(*sys.argv[1:])
+    main(*sys.argv[1:4])

@@ -1,6 +1,11 @@
 #!/bin/sh
 # bench/faults/killed_at.sh CALL COMMAND..: runs a command and kills it, as `kill -9` does, when it first makes this system call; that
-# call is not made. It needs strace. Status 1 where the command ended by itself.
+# call is not made. It needs strace. Status 1 if the command ended by itself.
+top=$(CDPATH='' cd -- "$(dirname -- "$0")/../.." && pwd) || exit 1
+. "$top/bench/tools/usage.sh"
+case $1 in -*) usage ;; esac
+[ $# -ge 2 ] || usage
+needs strace
 call=$1
 shift
 status=0

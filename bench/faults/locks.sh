@@ -2,10 +2,11 @@
 # Tries commands on one dataset side by side, in a temporary folder, which is removed. Prints a line for each try; the status
 # is 1 where one fails.
 #
-#     bench/faults/locks.sh [PROGRAM]         this program in place of ./pqds
+#     bench/faults/locks.sh [PROGRAM]         with this program, or that of bench/tools/program.sh
 #
-# With ROWS=N datasets have N rows (20000), with TURNS=N there are N commits of each kind beside N queries (200). With OLD set to a
-# program without `_lock`, that one is tried beside this one. With pyarrow for python3 it reads the folder, too.
+# With ROWS=N datasets have N rows (20000; at least 5000, since a slow query must print more than a pipe holds). With TURNS=N there
+# are N commits of each kind next to N queries (200). With OLD set to a program without `_lock`, that one is tried next to this one.
+# With pyarrow for python3 it reads the folder, too.
 #
 # - Two appends that begin at once are both done.
 # - A query that reads slowly through an append, a removal, a rewrite, an import and an added column prints exactly the table that it
@@ -19,14 +20,22 @@
 #   other. The next such command makes it where it is not there, readable by all who can read the folder.
 # - An append that waits while another folder comes in the place of the dataset's waits for that one, and changes it alone.
 # - A dataset can be appended to itself through a pipe.
-. "$(dirname -- "$0")/room.sh"
-python3 - "$program" "$room" <<'PYTHON'
+top=$(CDPATH='' cd -- "$(dirname -- "$0")/../.." && pwd) || exit 1
+. "$top/bench/tools/usage.sh"
+no_options "$@"
+[ $# -le 1 ] || usage
+needs python3
+program=$(PQDS=${1:-$PQDS} "$top/bench/tools/program.sh") || exit 1
+make_room
+python3 -B - "$program" "$room" <<'PYTHON'
 import fcntl, json, os, pty, shutil, stat, subprocess, sys, threading, time
 
 program, room = sys.argv[1:]
 os.chdir(room)
 ROWS = int(os.environ.get("ROWS", "20000"))
 TURNS = int(os.environ.get("TURNS", "200"))
+if ROWS < 5000:
+    sys.exit("locks.sh: ROWS is at least 5000: a slow query must print more than a pipe holds")
 LONGEST = 600
 failed = 0
 

@@ -1,19 +1,19 @@
 #!/bin/sh
-# bench/faults/outlives.sh: that a page that borrows from a buffer cannot outlive it. Of two functions that differ in that alone, the
-# one that gives out how many bytes a page has is proved, and the one that gives out the page is refused by the compiler.
+# bench/faults/outlives.sh: shows that a page that borrows from a buffer cannot outlive it. Two functions differ only in what they
+# return. The one that returns how many bytes a page has is proved, and the compiler rejects the one that returns the page. What
+# the crates have in out/ is used; crates that are not proved yet are proved first.
 top=$(CDPATH='' cd -- "$(dirname -- "$0")/../.." && pwd) || exit 1
-room=$(mktemp -d) || exit 1
-trap 'rm -rf "$room"' EXIT
-mkdir -p "$room/crates/outlives/src"
-crates='bits thrift_compact schema metadata plain hybrid_rle delta dictionary pages'
-for crate in $crates; do
-    cp -a "$top/crates/$crate" "$room/crates/"
-    grep "^$crate:" "$top/crates.txt"
-done >"$room/crates.txt"
-echo "outlives: $crates byteorder indexmap simdutf8" >>"$room/crates.txt"
+. "$top/bench/tools/usage.sh"
+. "$top/bench/tools/crates.sh"
+[ $# -eq 0 ] || usage
+needs rt
+make_room
+copy_crates "$room" --built bits pages schema || exit 1
+mkdir -p "$room/crates/outlives/src" || exit 1
+echo 'outlives: bits pages schema' >>"$room/crates.txt"
 
-# A function that reads a page out of a buffer of its own, and gives out this of it.
-write() {
+# Checks a function that reads a page from a buffer of its own, and returns this type and value.
+is_proved() {
     cat >"$room/crates/outlives/src/lib.rt" <<RATTLE
 #![tactic(auto)]
 
@@ -32,14 +32,14 @@ RATTLE
 }
 
 status=0
-if write 'usize' used; then
+if is_proved 'usize' used; then
     echo 'what a page says is given out: proved'
 else
     echo 'what a page says is given out: REFUSED'
     tail -n 20 "$room/log" >&2
     status=1
 fi
-if write "PageRef<'a>" page; then
+if is_proved "PageRef<'a>" page; then
     echo 'the page is given out: PROVED'
     status=1
 elif grep -q 'error\[' "$room/log"; then

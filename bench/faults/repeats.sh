@@ -3,11 +3,17 @@
 # must be there once. Each step is an `append` (or, every third, an `import` of two files) with `--unless` and a filter for its own
 # rows. The status is 1 where a row is missing or there twice.
 #
-#     bench/faults/repeats.sh [PROGRAM]       this program in place of ./pqds
+#     bench/faults/repeats.sh [PROGRAM]       with this program, or that of bench/tools/program.sh
 #
 # With STEPS=N there are N steps (50), with SEED=N other moments.
-. "$(dirname -- "$0")/room.sh"
-python3 - "$program" "$room" <<'PYTHON'
+top=$(CDPATH='' cd -- "$(dirname -- "$0")/../.." && pwd) || exit 1
+. "$top/bench/tools/usage.sh"
+no_options "$@"
+[ $# -le 1 ] || usage
+needs python3
+program=$(PQDS=${1:-$PQDS} "$top/bench/tools/program.sh") || exit 1
+make_room
+python3 -B - "$program" "$room" <<'PYTHON'
 import json, os, random, subprocess, sys, time
 
 program, room = sys.argv[1:]

@@ -1,13 +1,17 @@
 #!/bin/sh
 # A stop and a failure at each call of the disk, with all eighteen lists of words (zeros, ones and sixteen others) for what a
-# stop leaves, also of the stops within an opening, where the gate has four: bench/faults/stops.sh [LOOP]...
+# stop leaves, also of the stops within an opening, for which the gate has four lists:
 #
-# Runs the program of the crate stop_cases, which is proved and built first; where STOP_CASES names one that is built already, that
-# one. Prints each line with what the loop came to; the status is 1 where a line is not as counted by hand (docs/DISK.md). LOOP is
-# creations, creation-failures, creation-reopenings, columns, stops, failures or reopenings; all where none is named.
+#     bench/faults/stops.sh [LOOP]...
+#
+# Runs the program of the crate stop_cases, which is proved and built first, unless the variable STOP_CASES names one that is built
+# already. Prints each line with what the loop came to; the status is 1 if a line is not as counted by hand (docs/DISK.md). LOOP is
+# creations, creation-failures, creation-reopenings, columns, stops, failures or reopenings; without one all are run.
 top=$(CDPATH='' cd -- "$(dirname -- "$0")/../.." && pwd) || exit 1
-room=$(mktemp -d) || exit 1
-trap 'rm -rf "$room"' EXIT
+. "$top/bench/tools/usage.sh"
+. "$top/bench/faults/stop_cases.sh"
+no_options "$@"
+make_room
 [ $# -gt 0 ] || set -- creations creation-failures creation-reopenings columns failures stops reopenings
 for loop; do
     for pick in 0 1 2; do
@@ -27,10 +31,7 @@ for loop; do
     done
 done >"$room/wanted" || exit 2
 sed 's/ = .*//' "$room/wanted" >"$room/lines"
-if [ -z "$STOP_CASES" ]; then
-    (cd "$top/crates/stop_cases" && echo 'creations 0' | rt run >/dev/null) || exit 1
-    STOP_CASES=$top/crates/stop_cases/out/stop_cases
-fi
+stop_cases 'creations 0'
 "$STOP_CASES" <"$room/lines" | tee "$room/found"
 cmp -s "$room/wanted" "$room/found" && exit 0
 echo 'stops.sh: not as counted:' >&2

@@ -8,8 +8,11 @@ reads, or refuse it with a cause that pyarrow sees too. It needs Python with pya
 is there. Prints a line for each difference, and counts; status 1 where there is a difference. bench/peers/peers.py uses it."""
 import datetime, decimal, glob, json, os, random, shutil, subprocess, sys, tempfile
 
-import pyarrow as pa
-import pyarrow.parquet as pq
+try:
+    import pyarrow as pa
+    import pyarrow.parquet as pq
+except ModuleNotFoundError as missing:
+    sys.exit(f"{missing}: bench/peers/peers.sh makes a room that has it")
 
 EPOCH = datetime.date(1970, 1, 1)
 differences = 0
@@ -410,8 +413,11 @@ def read_folder(program, folder):
 
 
 def main():
-    if len(sys.argv) not in (2, 3):
-        sys.exit(__doc__)
+    if len(sys.argv) not in (2, 3) or sys.argv[1].startswith("-"):
+        print(__doc__, file=sys.stderr)
+        sys.exit(2)
+    if shutil.which(sys.argv[1]) is None:
+        sys.exit(f"outside.py: there is no program {sys.argv[1]}")
     program = os.path.abspath(sys.argv[1])
     with tempfile.TemporaryDirectory() as room:
         read_theirs(program, room)

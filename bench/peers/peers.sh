@@ -6,25 +6,29 @@
 #
 # ROOM is a folder with Debian's unstable release and these tools in it, in which they run (chroot). Where it is absent it is
 # made, by debootstrap: 1.5 GB and some two minutes. This needs root, Linux and a mirror of Debian. PROGRAM is the program; without
-# it the one that ./pqds builds. The parts are corpus, files, datasets, queries, import, workers, tutorial (the steps of docs/TUTORIAL.md)
+# it that of bench/tools/program.sh. The parts are corpus, files, datasets, queries, import, workers, tutorial (the steps of docs/TUTORIAL.md)
 # and sentences (of docs/FORMAT.md), all of them where none is named; and for figures sums (a sum by key, by workers of Dask) and
 # side (bench/peers/side.py: the same work by each of them), forms (of it, lines of JSON in three forms) and growth (what a table of
 # 100 to 40,000 groups takes). Prints for each how many were tried, equal and refused, with the cause; the status is 1 where there
 # is a difference without a cause. It is not in the gate.
 top=$(CDPATH='' cd -- "$(dirname -- "$0")/../.." && pwd) || exit 1
-[ -n "$1" ] || { sed -n '2,/^[^#]/s/^# \{0,1\}//p' "$0" >&2; exit 2; }
-mkdir -p "$1" || exit 1
+. "$top/bench/tools/usage.sh"
+no_options "$@"
+[ -n "$1" ] || usage
+program=$(PQDS=${2:-$PQDS} "$top/bench/tools/program.sh") || exit 1
+needs unshare chroot
+mkdir -p -- "$1" || exit 1
 room=$(CDPATH='' cd -- "$1" && pwd) || exit 1
-program=$2
 [ $# -ge 2 ] && shift
 shift
 
 # Runs the words in the room, with /proc there as long as they run.
+# shellcheck disable=SC2016
 inside() {
     unshare --mount sh -c 'mount -t proc proc "$0/proc" && exec chroot "$0" "$@"' "$room" "$@"
 }
 
-make_room() {
+make_debian() {
     echo "peers: making $room" >&2
     debootstrap --variant=minbase --include=ca-certificates sid "$room" http://deb.debian.org/debian >"$room.log" 2>&1 || return 1
     # A mirror whose lists are some weeks old is taken too; they are signed all the same.
@@ -35,14 +39,12 @@ make_room() {
 }
 
 if [ ! -x "$room/usr/bin/duckdb" ]; then
-    make_room || {
+    needs debootstrap
+    make_debian || {
         tail -n 20 "$room.log" >&2
         echo "peers: the room was not made; what was said is in $room.log" >&2
         exit 1
     }
-fi
-if [ -z "$program" ]; then
-    program=$("$top/bench/tools/program.sh") || exit 1
 fi
 mkdir -p "$room/opt/pqds" || exit 1
 cp -- "$program" "$room/opt/pqds/pqds" && cp -- "$top"/bench/peers/*.py "$top/docs/TUTORIAL.md" "$room/opt/pqds/" &&

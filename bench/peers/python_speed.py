@@ -13,11 +13,14 @@ import time
 import types
 from unittest import mock
 
-import numpy as np
-import pandas as pd
-import pqds
-import pyarrow as pa
-import pyarrow.parquet as pq
+try:
+    import numpy as np
+    import pandas as pd
+    import pqds
+    import pyarrow as pa
+    import pyarrow.parquet as pq
+except ModuleNotFoundError as missing:
+    sys.exit(f"{missing}: bench/peers/peers.sh makes a room that has it")
 
 cramjam = importlib.import_module("cramjam")
 if not hasattr(cramjam, "gzip"):  # Debian's build has none, and fastparquet asks for its names when it is imported
@@ -134,6 +137,9 @@ def make_tables(rows):
 
 
 def main():
+    if len(sys.argv) != 2 or not sys.argv[1].isdigit():
+        print(f"{os.path.basename(__file__)} ROWS: bench/peers/python.sh runs this", file=sys.stderr)
+        sys.exit(2)
     rows = int(sys.argv[1])
     with tempfile.TemporaryDirectory() as room:
         os.chdir(room)

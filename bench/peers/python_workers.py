@@ -8,12 +8,15 @@ import sys
 import tempfile
 import time
 
-import dask
-import dask.dataframe as dd
-import numpy as np
-import pandas as pd
-import pqds
-from dask.distributed import Client, LocalCluster
+try:
+    import dask
+    import dask.dataframe as dd
+    import numpy as np
+    import pandas as pd
+    import pqds
+    from dask.distributed import Client, LocalCluster
+except ModuleNotFoundError as missing:
+    sys.exit(f"{missing}: bench/peers/peers.sh makes a room that has it")
 
 PARTS = 16
 KEYS = 10
@@ -52,6 +55,9 @@ def timed(what, call):
 
 
 def main():
+    if len(sys.argv) != 2 or not sys.argv[1].isdigit():
+        print(f"{os.path.basename(__file__)} ROWS: bench/peers/python.sh runs this", file=sys.stderr)
+        sys.exit(2)
     rows, count = int(sys.argv[1]), 4
     dask.config.set({"distributed.worker.daemon": True, "dataframe.convert-string": False})
     with tempfile.TemporaryDirectory() as room:

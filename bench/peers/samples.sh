@@ -1,13 +1,11 @@
 #!/bin/sh
-# Decodes each file of sample/ and compares what is printed with its lines; then makes the files of orders again, each in
+# bench/peers/samples.sh: decodes each file of sample/ and compares what is printed with its lines; then makes the files of orders again, each in
 # its style, and compares the bytes. Prints each file that differs; the status is 0 where none does.
-#
-#     bench/peers/samples.sh
 top=$(CDPATH='' cd -- "$(dirname -- "$0")/../.." && pwd) || exit 1
+. "$top/bench/tools/usage.sh"
+[ $# -eq 0 ] || usage
 program=$("$top/bench/tools/program.sh") || exit 1
-room=$(mktemp -d) || exit 1
-trap 'rm -rf "$room"' EXIT
-trap 'exit 130' INT TERM HUP
+make_room
 cd "$top/sample" || exit 1
 status=0
 

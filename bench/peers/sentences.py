@@ -1,9 +1,13 @@
 """For bench/peers/peers.py: what docs/FORMAT.md says of other tools and no random file or table shows, tried by hand. Prints a line for
 each, with what the tool did; another outcome than the page's is a difference."""
 import json
+import sys
 
-import pyarrow.dataset as ds
-import pyarrow.parquet as pq
+try:
+    import pyarrow.dataset as ds
+    import pyarrow.parquet as pq
+except ModuleNotFoundError as missing:
+    sys.exit(f"{missing}: bench/peers/peers.sh makes a room that has it")
 
 import fast
 from outside import isolated

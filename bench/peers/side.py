@@ -6,12 +6,15 @@ imported them. A cell has seconds, processor seconds and the most memory in MB (
 imports), and in brackets what pqds takes of the first two in times of these. Of what writes a dataset, `synced` is
 the time of all files and folders written and synced: pqds never does it otherwise, the others leave it to the caller.
 The variable TIMES has how many runs there are of each (5)."""
-import glob, json, os, resource, shutil, subprocess, time
+import glob, json, os, resource, shutil, subprocess, sys, time
 
-import pyarrow as pa
-import pyarrow.dataset as ds
-import pyarrow.json
-import pyarrow.parquet as pq
+try:
+    import pyarrow as pa
+    import pyarrow.dataset as ds
+    import pyarrow.json
+    import pyarrow.parquet as pq
+except ModuleNotFoundError as missing:
+    sys.exit(f"{missing}: bench/peers/peers.sh makes a room that has it")
 
 import fast
 from outside import isolated

@@ -1,8 +1,11 @@
 """Random tables for bench/peers/peers.py: of pyarrow, with every type that is read, nested three deep; and schemas with rows as
 `pqds encode` takes them. The same number gives the same table."""
-import datetime, decimal, random
+import datetime, decimal, random, sys
 
-import pyarrow as pa
+try:
+    import pyarrow as pa
+except ModuleNotFoundError as missing:
+    sys.exit(f"{missing}: bench/peers/peers.sh makes a room that has it")
 
 EPOCH = datetime.date(1970, 1, 1)
 TEXTS = ["", "plain", "Grüße \"x\"", "\n\t\\\u0001 €𝄞", "a=b/c%", "__HIVE_DEFAULT_PARTITION__", "0", "value"]

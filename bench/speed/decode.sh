@@ -1,10 +1,12 @@
 #!/bin/sh
-# Decodes files of 50 MB, and prints the seconds and the most memory that this took.
+# bench/speed/decode.sh: decodes files of 50 MB, and prints the seconds and the most memory that this took.
 # The files are made by python3, in a temporary folder, which is removed.
 top=$(CDPATH='' cd -- "$(dirname -- "$0")/../.." && pwd) || exit 1
-room=$(mktemp -d) || exit 1
-trap 'rm -rf "$room"' EXIT
+. "$top/bench/tools/usage.sh"
+[ $# -eq 0 ] || usage
+needs python3
 program=$("$top/bench/tools/program.sh") || exit 1
+make_room
 for column in numbers texts; do
     python3 "$top/bench/speed/make_file.py" "$column" "$room/$column.parquet" || exit 1
     python3 - "$program" "$room/$column.parquet" <<'PYTHON'

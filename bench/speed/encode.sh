@@ -1,17 +1,19 @@
 #!/bin/sh
-# Encodes rows of a number and a text in each style, decodes them again, and prints rows and bytes per second beside
-# `cat` of the same files in the same run, for 100,000 and for 1,000,000 rows: a cost that is linear has the same rows
+# Encodes rows of a number and a text in each style, decodes them again, and prints rows and bytes per second next
+# to `cat` of the same files in the same run, for 100,000 and for 1,000,000 rows: a cost that is linear has the same rows
 # per second in both. The rows are made by python3, in a temporary folder, which is removed. Each time is processor time, the
 # best of three; that of a style is also given as a multiple of the time of `plain`.
 #
 #     bench/speed/encode.sh [ROWS]...        other numbers of rows (at most 1048576 each)
 #
-# Where ENCODER names a program, it is run beside: as ENCODER n:i,t:s ROWS OUT, where i is a number and s a text.
+# If the variable ENCODER names a program, it is run as well: as ENCODER n:i,t:s ROWS OUT, where i is a number and s a text.
 top=$(CDPATH='' cd -- "$(dirname -- "$0")/../.." && pwd) || exit 1
-room=$(mktemp -d) || exit 1
-trap 'rm -rf "$room"' EXIT
-program=$("$top/bench/tools/program.sh") || exit 1
+. "$top/bench/tools/usage.sh"
+only_numbers "$@"
 [ $# -gt 0 ] || set -- 100000 1000000
+needs python3
+program=$("$top/bench/tools/program.sh") || exit 1
+make_room
 for rows in "$@"; do
     python3 - "$program" "$room" "$rows" <<'PYTHON' || exit 1
 import os, subprocess, sys

@@ -1,17 +1,17 @@
 #!/bin/sh
-# Decodes a file of 2.1 GB, near the greatest that is read, and prints the seconds and the most memory that this took;
+# bench/speed/huge.sh: decodes a file of 2.1 GB, near the greatest that is read, and prints the seconds and the most memory that this took;
 # then a file of one byte more than the greatest, which is refused. The rows are counted, and the last one is looked at.
-# The files are made by python3, in a temporary folder with some 2.2 GB of room, which is removed. Where PROGRAM names a
-# program that is built already, that one is run.
+# The files are made by python3, in a temporary folder with some 2.2 GB of room, which is removed.
 top=$(CDPATH='' cd -- "$(dirname -- "$0")/../.." && pwd) || exit 1
-room=$(mktemp -d) || exit 1
-trap 'rm -rf "$room"' EXIT
-# The program is built before anything is measured.
-"${PROGRAM:-$top/pqds}" decode "$top/sample/two_rows.parquet" >/dev/null || exit 1
+. "$top/bench/tools/usage.sh"
+[ $# -eq 0 ] || usage
+needs python3
+program=$("$top/bench/tools/program.sh") || exit 1
+make_room
 python3 "$top/bench/speed/make_file.py" huge "$room/huge.parquet" || exit 1
 printf PAR1 >"$room/longer.parquet"
 truncate -s 2147483648 "$room/longer.parquet"
-python3 - "${PROGRAM:-$top/pqds}" "$room" <<'PYTHON'
+python3 - "$program" "$room" <<'PYTHON'
 import os, resource, subprocess, sys
 
 program, room = sys.argv[1:]

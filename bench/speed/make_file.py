@@ -283,19 +283,26 @@ def prefixes():
 KINDS = {make.__name__: make for make in (flat, optional, lists, groups, delta, strings, dictionary, lengths, prefixes)}
 
 
-def main(what, path, lines=None):
+def main(words):
+    if len(words) not in (2, 3) or words[0] not in (*KINDS, "huge", "numbers", "texts"):
+        print(__doc__, file=sys.stderr)
+        return 2
+    what, path = words[:2]
     if what == "huge":
         huge(path)
-        return
-    if what not in KINDS:
+    elif what not in KINDS:
         one_page(what, path)
-        return
-    elements, chunks, rows = KINDS[what]()
-    write(path, elements, chunks, len(rows))
-    if lines:
-        with open(lines, "w") as file:
-            file.writelines(row + "\n" for row in rows)
+    else:
+        elements, chunks, rows = KINDS[what]()
+        write(path, elements, chunks, len(rows))
+        if len(words) == 3:
+            with open(words[2], "w") as file:
+                file.writelines(row + "\n" for row in rows)
+    return 0
 
 
 if __name__ == "__main__":
-    main(*sys.argv[1:])
+    try:
+        sys.exit(main(sys.argv[1:]))
+    except OSError as error:
+        sys.exit(f"make_file.py: {error}")

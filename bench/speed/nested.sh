@@ -5,9 +5,12 @@
 #
 #     bench/speed/nested.sh [RUNS]           the best of so many runs, of all files in turn (5)
 top=$(CDPATH='' cd -- "$(dirname -- "$0")/../.." && pwd) || exit 1
-room=$(mktemp -d) || exit 1
-trap 'rm -rf "$room"' EXIT
+. "$top/bench/tools/usage.sh"
+only_numbers "$@"
+[ $# -le 1 ] || usage
+needs python3
 program=$("$top/bench/tools/program.sh") || exit 1
+make_room
 python3 - "$top" "$room" "${1:-5}" "$program" <<'PYTHON'
 import os, subprocess, sys, time
 

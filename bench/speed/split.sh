@@ -1,3 +1,8 @@
 #!/bin/sh
-# Prints how many rows a second are split by their keys, for 1, 100 and 10,000 keys, beside a plain copy of the rows.
-exec sh "$(dirname -- "$0")/proved.sh" split '^(numbers|texts)' bits thrift_compact schema partition
+# bench/speed/split.sh: prints how many rows a second are split by their keys, for 1, 100 and 10,000 keys,
+# next to a plain copy of the rows. It proves and builds the program bench/speed/split.rt.in first
+# (bench/speed/proved.sh).
+top=$(CDPATH='' cd -- "$(dirname -- "$0")/../.." && pwd) || exit 1
+. "$top/bench/tools/usage.sh"
+[ $# -eq 0 ] || usage
+exec sh "$top/bench/speed/proved.sh" split '^(numbers|texts)'

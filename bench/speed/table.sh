@@ -1,14 +1,16 @@
 #!/bin/sh
-# bench/speed/table.sh [PQDS]: what calls on a table cost by its root and by its groups. Prints seconds and processor seconds, each the least
-# of five runs:
+# bench/speed/table.sh [PROGRAM]: what calls on a table cost by its root and by its groups, with this program or that of this tree.
+# Prints seconds and processor seconds, each the least of five runs:
 #
 #   of tables with 1,000 and 10,000 groups of 20 columns: `groups` (the root read), `count`, `add-column` (read and written);
-#   of a group of 131,072 rows and 20 columns: `query` of one column by a filter on another, beside `decode` of its file.
+#   of a group of 131,072 rows and 20 columns: `query` of one column by a filter on another, next to `decode` of its file.
 top=$(CDPATH='' cd -- "$(dirname -- "$0")/../.." && pwd) || exit 1
-program=${1:-$("$top/bench/tools/program.sh")} || exit 1
-room=$(mktemp -d) || exit 1
-trap 'rm -rf "$room"' EXIT
-trap 'exit 130' INT TERM HUP
+. "$top/bench/tools/usage.sh"
+no_options "$@"
+[ $# -le 1 ] || usage
+needs python3
+program=$(PQDS=${1:-$PQDS} "$top/bench/tools/program.sh") || exit 1
+make_room
 python3 - "$program" "$room" <<'PYTHON'
 import json, os, resource, subprocess, sys, time
 

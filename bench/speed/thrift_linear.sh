@@ -8,15 +8,17 @@
 #
 # It needs `rt` on the path, writes nothing in the repository, and proves nothing.
 set -eu
-top=$(cd "$(dirname "$0")/../.." && pwd)
-work=$(mktemp -d)
-trap 'rm -rf "$work"' EXIT
-mkdir -p "$work/crates/thrift_cost/src"
-for name in bits thrift_compact; do
-    mkdir "$work/crates/$name"
-    cp -R "$top/crates/$name/src" "$top/crates/$name/specs" "$top/crates/$name/proofs" "$work/crates/$name/"
-done
-printf 'bits: thiserror byteorder\nthrift_compact: bits\nthrift_cost: thrift_compact bits\n' > "$work/crates.txt"
+top=$(CDPATH='' cd -- "$(dirname -- "$0")/../.." && pwd)
+. "$top/bench/tools/usage.sh"
+. "$top/bench/tools/crates.sh"
+no_options "$@"
+[ $# -eq 0 ] || [ $# -eq 3 ] || usage
+[ $# -eq 0 ] || only_numbers "$2" "$3"
+needs rt
+make_room
+copy_crates "$room" bits thrift_compact
+mkdir -p "$room/crates/thrift_cost/src"
+echo 'thrift_cost: bits thrift_compact' >>"$room/crates.txt"
 
 # The byte so many times.
 repeated() {
@@ -50,7 +52,7 @@ bytes_of() {
 # Whether a struct of so many values of the shape is built and read in so many steps.
 is_within() {
     bytes_of "$1" "$2"
-    cat > "$work/crates/thrift_cost/src/main.rt" <<TEXT
+    cat > "$room/crates/thrift_cost/src/main.rt" <<TEXT
 #![tactic(auto)]
 
 use bits::R;
@@ -79,10 +81,10 @@ fn main(rt: HostRuntime) -> io::Result<()> {
     Ok(())
 }
 TEXT
-    (cd "$work/crates/thrift_cost" && rt try --steps "$3" < /dev/null) > "$work/said" 2>&1 || true
-    grep -q '^checked: ended status=0' "$work/said" || { cat "$work/said" >&2; exit 1; }
-    read=$(grep -E 'bytes$|^[A-Z][a-z]+$' "$work/said")
-    grep -q '^interpreter: ended status=0' "$work/said"
+    (cd "$room/crates/thrift_cost" && rt try --steps "$3" < /dev/null) > "$room/said" 2>&1 || true
+    grep -q '^checked: ended status=0' "$room/said" || { cat "$room/said" >&2; exit 1; }
+    read=$(grep -E 'bytes$|^[A-Z][a-z]+$' "$room/said")
+    grep -q '^interpreter: ended status=0' "$room/said"
 }
 
 if [ $# -eq 3 ]; then

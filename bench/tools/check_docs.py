@@ -9,11 +9,11 @@ import os
 import re
 import sys
 
+import command_line
 import headline
 
 TOP = os.path.dirname(os.path.dirname(os.path.dirname(os.path.abspath(__file__))))
 CRATES = os.path.join(TOP, "crates")
-TESTS = re.compile(r"_(cases|tests|bodies)$|^case_words$")
 COLUMNS = 165
 MOST = {"lines of more than 165 columns": 445, "definitions of one name in two crates": 300, "statements that stand twice": 115, "bodies that stand twice": 32}
 
@@ -47,6 +47,11 @@ def crates():
     return listed
 
 
+def crates_of_tests():
+    """Those of the section of crates.txt that begins with `# Tests`."""
+    return {line.split(":")[0].split()[0] for line in read("crates.txt").split("\n# Tests")[1].split("\n")[1:] if ":" in line}
+
+
 SOURCES = collections.defaultdict(str)
 for part, ending in (("src", ".rt"), ("specs", ".antt"), ("proofs", ".antt")):
     for crate, _, text in files(part, ending):
@@ -63,9 +68,8 @@ def layers(listed):
         return height[name]
 
     rows = collections.defaultdict(list)
-    for name in listed:
-        if not TESTS.search(name):
-            rows[of(name)].append(name)
+    for name in sorted(set(listed) - crates_of_tests()):
+        rows[of(name)].append(name)
     return [sorted(rows[it]) for it in sorted(rows, reverse=True)]
 
 
@@ -154,6 +158,25 @@ def undescribed():
     return found
 
 
+def pages_of_bench():
+    """Files of bench/ that its pages do not name, files that they name and that are not there, and results of edits that are gone."""
+    wrong = []
+    for folder in sorted(os.listdir(os.path.join(TOP, "bench"))):
+        page = read("bench", folder, "README.md")
+        rows = [line.split("|")[1] for line in page.split("\n") if line.startswith("| `")]
+        words = set(re.findall(r"`([\w/]+(?:\.\w+)*)/?`", page))
+        named = {it for row in rows for it in re.findall(r"`([\w.]+)/?`", row)}
+        there = set(os.listdir(os.path.join(TOP, "bench", folder))) - {"README.md", "__pycache__"}
+        measured = {it for it in there if it.endswith(".rt.in") and it.replace(".rt.in", ".sh") in there}
+        wrong += [f"bench/{folder}/{it} is not named" for it in sorted(there - named - words - measured)]
+        wrong += [f"bench/{folder}/{it} does not exist" for it in sorted(named - there)]
+    edits = os.path.join(TOP, "bench", "tools", "edits")
+    for line in read("bench", "tools", "edits", "results.tsv").split("\n") if os.path.isfile(os.path.join(edits, "results.tsv")) else []:
+        if line and not line.startswith("#") and not os.path.isfile(os.path.join(edits, *line.split("\t")[:2]) + ".edit"):
+            wrong.append(f"results.tsv has {'/'.join(line.split(chr(9))[:2])}, which is no edit")
+    return wrong
+
+
 def versions():
     """The version as the program, the Python module and the changelog have it."""
     def found(pattern, *path):
@@ -198,6 +221,7 @@ def write(listed):
 
 
 def main():
+    command_line.only(__doc__, "--write")
     listed, faults, passed = crates(), [], 0
 
     def check(what, wrong):
@@ -220,12 +244,13 @@ def main():
         check(f"crates.txt, {crate}", ", ".join(f"{it} is cited nowhere" for it in idle))
         check(f"{crate} has a README.md", "" if os.path.isfile(os.path.join(CRATES, crate, "README.md")) else "no")
     check("crates that are no crate of crates.txt", ", ".join(sorted(set(os.listdir(CRATES)) - set(listed))))
-    words = set(re.findall(r"[\w\-]+", "\n".join(SOURCES.values()))) | set(listed) | set(re.findall(r"[\w\-]+", read("docs", "USAGE.md") + read("crates.txt")))
+    known = set(re.findall(r"[\w\-]+", "\n".join(SOURCES.values()))) | set(listed) | set(re.findall(r"[\w\-]+", read("docs", "USAGE.md") + read("crates.txt")))
     for document in ("README.md", "docs/PROMISES.md"):
         names = set(re.findall(r"`([a-zA-Z]\w+)`", read(document)))
-        check(f"names in {document} that no source has", ", ".join(sorted(names - words)))
+        check(f"names in {document} that no source has", ", ".join(sorted(names - known)))
     check("names that docs/HEADLINE.md explains and its contracts do not reach", ", ".join(headline.foreign_names(headline.reached())))
     check("public definitions without a line that says what they are", "; ".join(undescribed()))
+    check("pages of bench/", "; ".join(pages_of_bench()))
     named = versions()
     check("one version", "" if len(set(named.values())) == 1 else ", ".join(f"{who} has {it}" for who, it in named.items()))
     for what, counted in (("lines of more than 165 columns", long_lines), ("definitions of one name in two crates", definitions),

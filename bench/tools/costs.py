@@ -14,6 +14,7 @@ import collections
 import contextlib
 import os
 import re
+import shutil
 import subprocess
 import sys
 import time
@@ -76,24 +77,30 @@ class Costs:
 
     def note(self, number: str, fields: list[str]) -> None:
         """Notes what one process has used so far."""
+        minutes = (int(fields[11]) + int(fields[12])) / TICKS / 60
+        process = number, fields[19]
         call = text_of(f"/proc/{number}/cmdline").replace("\0", " ")
+        if not call and process in self.seen:
+            # It is ending, and has given up its memory, where its words were.
+            name, kind, _ = self.seen[process]
+            self.seen[process] = name, kind, minutes
+            return
         folder = os.readlink(f"/proc/{number}/cwd")
         crate = re.search(r"--crate-name (\w+)", call) or re.search(
             r"crates/(\w+)", f"{folder} {call}"
         )
-        minutes = (int(fields[11]) + int(fields[12])) / TICKS / 60
-        self.seen[number, fields[19]] = crate[1] if crate else ITSELF, kind_of(folder, call), minutes
+        self.seen[process] = crate[1] if crate else ITSELF, kind_of(folder, call), minutes
 
     def lines(self, order: list[str]) -> list[str]:
         """A line for each kind of work, with the crates in this order that have any, and the sum."""
-        costs: dict[str, collections.Counter[str]] = collections.defaultdict(collections.Counter)
+        costs: dict[str, dict[str, float]] = {it: collections.defaultdict(float) for it in KINDS}
         for name, kind, minutes in self.seen.values():
             costs[kind][name] += minutes
         lines = []
         for kind in KINDS:
             there = [it for it in [*order, ITSELF] if costs[kind][it] >= LEAST]
             parts = ", ".join(f"{it} {costs[kind][it]:.1f}" for it in there)
-            lines.append(f"{kind}: {costs[kind].total():.1f} processor minutes: {parts or 'none'}")
+            lines.append(f"{kind}: {sum(costs[kind].values()):.1f} processor minutes: {parts or 'none'}")
         return lines
 
     def total(self) -> float:
@@ -109,8 +116,8 @@ def main(words: list[str]) -> int:
     into = None
     if words[:1] == ["--into"]:
         into, words = words[1], words[2:]
-    if not words:
-        print(__doc__, file=sys.stderr)
+    if not words or shutil.which(words[0]) is None:
+        print((__doc__ or "").strip(), file=sys.stderr)
         return 2
     started = time.time()
     with subprocess.Popen(words) as run:

@@ -10,6 +10,8 @@ empty part, `.` or `..`.
 import itertools
 import sys
 
+import command_line
+
 ROOT, NEXT = "_metadata", "_metadata.new"
 
 
@@ -634,6 +636,7 @@ def times(cases, head, lines):
 
 
 def main():
+    command_line.only(__doc__)
     cases, lines = Cases(), sys.stdin.read().splitlines()
     at = 0
     while at < len(lines):
@@ -652,4 +655,5 @@ def main():
         at = end
 
 
-main()
+if __name__ == "__main__":
+    main()

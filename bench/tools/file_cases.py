@@ -7,6 +7,7 @@ With `--stdin` it prints what `crates/file_cases/stdin` must be for the `stdout`
 import os
 import sys
 
+import command_line
 from compact import uleb, zigzag
 
 TOP = os.path.join(os.path.dirname(os.path.abspath(__file__)), "..", "..", "crates", "file_cases")
@@ -147,6 +148,7 @@ def lists_of_two_lengths():
 
 
 def main():
+    command_line.only(__doc__, "--stdin")
     if "--stdin" in sys.argv:
         for line in open(os.path.join(TOP, "stdout"), encoding="utf-8"):
             line = line.rstrip("\n")
@@ -162,4 +164,5 @@ def main():
         print(f"text {name} {made.hex()}")
 
 
-main()
+if __name__ == "__main__":
+    main()

@@ -8,6 +8,8 @@ prints the lines `changes` of crates/file_cases/stdout.
 """
 import os
 
+import command_line
+
 CASES = os.path.join(os.path.dirname(os.path.abspath(__file__)), "..", "..", "crates", "file_cases", "stdout")
 
 
@@ -538,11 +540,12 @@ def tally(b):
 
 def main():
     """Prints the line of each of the files that have these names in the cases."""
+    command_line.only(__doc__)
     named = {}
     for line in open(CASES, encoding='utf-8'):
-        words = line.split()
-        if len(words) == 3 and words[0] == 'text':
-            named[words[1]] = words[2]
+        parts = line.split()
+        if len(parts) == 3 and parts[0] == 'text':
+            named[parts[1]] = parts[2]
     for name in ['file', 'norows', 'plain']:
         counts = tally(bytes.fromhex(named[name]))
         said = [f"{counts.pop('read', 0)} read"] + [f'{counts[k]} refused {k}' for k in sorted(counts, key=int)]

@@ -6,16 +6,22 @@
 #
 #     bench/tools/gate.sh [--anew] [CRATE]...     these crates only, with those below them
 #
-# What this machine has kept of earlier runs costs nothing and is not told: --anew proves all of it again, and so does a
-# machine that has kept nothing. The clock counts what else the machine does; processor minutes rise by a tenth to a half where it
-# is busy. Processes that end within a second are missed.
+# What this machine has kept of earlier runs costs nothing and is not reported: --anew proves all of it again, as a machine does
+# that has kept nothing. The clock counts what else the machine does; processor minutes rise by a tenth to a half if it is busy. Processes that end within a second are missed.
 top=$(CDPATH='' cd -- "$(dirname -- "$0")/../.." && pwd) || exit 1
-room=$(mktemp -d) || exit 1
-trap 'rm -rf "$room"' EXIT
-trap 'exit 130' INT TERM HUP
+. "$top/bench/tools/usage.sh"
+case $1 in --anew) ;; -*) usage ;; esac
+for word; do
+    [ "$word" = --anew ] || grep -q "^${word}[ :]" "$top/crates.txt" || {
+        echo "gate.sh: crates.txt has no crate $word" >&2
+        exit 2
+    }
+done
+needs rt python3 git
+make_room
 git clone -q "$top" "$room/copy" || exit 1
 cd "$room/copy" && python3 -B bench/tools/costs.py rt ci "$@" >"$room/log" 2>&1
 status=$?
 sed -n '/^proof: /,$p' "$room/log"
-grep -E '^[0-9]+ passed, [0-9]+ failed$' "$room/log"
+grep -E '^[0-9]+ passed, [0-9]+ failed' "$room/log"
 exit "$status"

@@ -10,6 +10,8 @@ import os
 import re
 import sys
 
+import command_line
+
 TOP = os.path.dirname(os.path.dirname(os.path.dirname(os.path.abspath(__file__))))
 # What the contracts say: file of the function, and the names that its clauses cite.
 CONTRACTS = {
@@ -127,6 +129,7 @@ def foreign_names(reach):
 
 
 def main():
+    command_line.only(__doc__, "--names")
     reach = reached()
     order = sorted(reach.steps, key=lambda it: (reach.steps[it], it.crate, it.module, it.line))
     if "--names" in sys.argv:

@@ -13,11 +13,14 @@ import json
 import os
 import random
 import re
+import shutil
 import subprocess
 import sys
 import tempfile
 from pathlib import Path
 from typing import Any
+
+from command_line import usage
 
 Field = dict[str, Any]
 
@@ -246,6 +249,9 @@ def main(words: list[str]) -> int:
 
 
 if __name__ == "__main__":
-    if len(sys.argv) != 5:
-        sys.exit((__doc__ or "").strip())
+    if len(sys.argv) != 5 or not (sys.argv[3] + sys.argv[4]).isdigit():
+        usage(__doc__)
+    for program in sys.argv[1:3]:
+        if shutil.which(program) is None:
+            sys.exit(f"lines.py: there is no program {program}")
     sys.exit(main(sys.argv[1:]))

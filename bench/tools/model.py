@@ -7,7 +7,8 @@ list of groups, a group is a number, a key and a list of rows. `bench/tools/mode
 """
 import json
 import random
-import sys
+
+import command_line
 
 SIZE = 3
 KEYS = ["a", "b", "c"]
@@ -291,7 +292,7 @@ def text(value):
     return json.dumps(value, separators=(",", ":"), sort_keys=True)
 
 
-def main(number=10_000, seed=1):
+def main(number, seed):
     model = Model()
     calls = Calls(model, seed)
     print(f"create {SIZE} k {SCHEMA} = ok")
@@ -300,4 +301,5 @@ def main(number=10_000, seed=1):
         print(f"{text(call)} = {text(answer(model, call))}")
 
 
-main(*map(int, sys.argv[1:]))
+if __name__ == "__main__":
+    main(*command_line.numbers(__doc__, 10_000, 1))

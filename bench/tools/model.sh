@@ -1,19 +1,26 @@
 #!/bin/sh
-# Random calls on a table, answered by the plain model in bench/tools/model.py and by the store. Prints the first line that differs,
-# or how many were the same; the status is 1 where one differs.
+# Random calls on a table, answered by the plain model in bench/tools/model.py and by the store. Prints the first line that
+# differs, or how many were the same; the status is 1 if one differs.
 #
 #     bench/tools/model.sh [CALLS [SEED]]                by the crate store_cases, on a disk in memory, with `rt try`: unproved
 #     bench/tools/model.sh --program [CALLS [SEED]]      by `pqds run`, in a folder, with the program of bench/tools/program.sh
 set -e
-top=$(cd "$(dirname "$0")/../.." && pwd)
-room=$(mktemp -d)
-trap 'rm -rf "$room"' EXIT
+top=$(CDPATH='' cd -- "$(dirname -- "$0")/../.." && pwd)
+. "$top/bench/tools/usage.sh"
 by=store_cases
 if [ "$1" = --program ]; then
     by=program
-    program=$("$top/bench/tools/program.sh")
     shift
 fi
+only_numbers "$@"
+[ $# -le 2 ] || usage
+needs python3
+if [ "$by" = program ]; then
+    program=$("$top/bench/tools/program.sh")
+else
+    needs rt
+fi
+make_room
 
 # The calls by the crate of cases, which repeats each line with its answer.
 run_store_cases() {
@@ -32,7 +39,7 @@ run_program() {
     awk 'NR == FNR { call[NR] = $0; next } { print call[FNR] " = " $0 }' "$room/calls" "$room/answers" >>"$room/found"
 }
 
-python3 "$top/bench/tools/model.py" "$@" >"$room/wanted"
+python3 -B "$top/bench/tools/model.py" "$@" >"$room/wanted"
 "run_$by" || true
 if cmp -s "$room/wanted" "$room/found"; then
     echo "$(wc -l <"$room/wanted") lines are the same"

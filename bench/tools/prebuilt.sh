@@ -1,12 +1,17 @@
 #!/bin/sh
-# bench/tools/prebuilt.sh [--write]: whether prebuilt/pqds.gz is the program of this tree. It is compared by the digest of the
-# sources, by its own sum, and with crates/pqds/out/pqds where the gate has built that. With --write both files of
-# prebuilt/ are made anew of crates/pqds/out/pqds. Status 1 where they differ.
+# Reports whether prebuilt/ has the program of this tree, by the digest of the sources, by the program's own sum, and, if the gate
+# has built crates/pqds/out/pqds, by comparing it with that. The status is 1 if they differ.
+#
+#     bench/tools/prebuilt.sh            reports
+#     bench/tools/prebuilt.sh --write    makes both files of prebuilt/ again from crates/pqds/out/pqds, and reports
 top=$(CDPATH='' cd -- "$(dirname -- "$0")/../.." && pwd) || exit 1
+. "$top/bench/tools/usage.sh"
 . "$top/prebuilt/sources.sh"
+case $* in '' | --write) ;; *) usage ;; esac
 program=$top/crates/pqds/out/pqds
 
 if [ "$1" = --write ]; then
+    needs rt
     [ -x "$program" ] || {
         echo 'prebuilt.sh: crates/pqds/out/pqds is not built: run rt ci or ./pqds --prove first' >&2
         exit 1
@@ -30,15 +35,17 @@ if [ "$(said_of sources)" = "$(digest_of_sources)" ]; then
 else
     tell 'the sources are not those that prebuilt/SOURCES names' not
 fi
-sum=$(gzip -dc "$top/prebuilt/pqds.gz" | sha256sum)
-if [ "${sum%% *}" = "$(said_of program)" ]; then
+sum=$(gzip -dc "$top/prebuilt/pqds.gz" 2>/dev/null | sha256sum)
+if [ ! -f "$top/prebuilt/pqds.gz" ]; then
+    tell 'there is no prebuilt/pqds.gz' not
+elif [ "${sum%% *}" = "$(said_of program)" ]; then
     tell 'prebuilt/pqds.gz is the program that prebuilt/SOURCES names' well
 else
     tell 'prebuilt/pqds.gz is not the program that prebuilt/SOURCES names' not
 fi
 if [ ! -x "$program" ]; then
     tell 'crates/pqds/out/pqds is not built, so it is not compared' well
-elif gzip -dc "$top/prebuilt/pqds.gz" | cmp -s - "$program"; then
+elif gzip -dc "$top/prebuilt/pqds.gz" 2>/dev/null | cmp -s - "$program"; then
     tell 'crates/pqds/out/pqds is that program, byte for byte' well
 else
     tell 'crates/pqds/out/pqds is another program' not

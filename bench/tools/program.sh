@@ -1,32 +1,29 @@
 #!/bin/sh
-# bench/tools/program.sh: prints the path of the program of this tree, for the scripts here. It is the one that the variable PQDS
-# names, if it is set; else the one that was built, if no source is newer; else the one of prebuilt/, if it was made of these
-# sources. Otherwise it says so, and ends with status 1: it builds nothing, since that proves every crate and takes hours.
+# bench/tools/program.sh: prints the path of the program of this tree, for the other scripts. It is the program that the variable
+# PQDS names, if it is set; otherwise the one that was built (crates/pqds/out/pqds), if no source is newer; otherwise the one of
+# prebuilt/, if it was made from these sources. If there is none, it says so and ends with status 1. It builds nothing, since
+# building proves every crate and takes hours.
 top=$(CDPATH='' cd -- "$(dirname -- "$0")/../.." && pwd) || exit 1
+. "$top/bench/tools/usage.sh"
 . "$top/prebuilt/sources.sh"
+[ $# -eq 0 ] || usage
+
 if [ -n "$PQDS" ]; then
-    printf '%s\n' "$PQDS"
-    exit 0
+    found=$(command -v -- "$PQDS") || found=$PQDS
+    if [ ! -f "$found" ] || [ ! -x "$found" ]; then
+        echo "program.sh: the variable PQDS names '$PQDS', which is no program" >&2
+        exit 1
+    fi
+    realpath -- "$found"
+    exit
 fi
 built=$top/crates/pqds/out/pqds
-unpacked=$top/prebuilt/.pqds
-
-if [ -x "$built" ]; then
-    newer=$(find "$top/crates" "$top/crates.txt" -name out -prune -o -name '*_tests' -prune -o -newer "$built" \
-        -type f \( -name '*.rt' -o -name '*.antt' -o -name crates.txt \) -print | head -n 1)
-    [ -n "$newer" ] || {
-        printf '%s\n' "$built"
-        exit 0
-    }
+unpacked=$(place_of_unpacked)
+if [ -x "$built" ] && [ -z "$(newer_source "$built")" ]; then
+    printf '%s\n' "$built"
+elif unpack_fresh_to "$unpacked"; then
+    printf '%s\n' "$unpacked"
+else
+    echo 'program.sh: there is no program of these sources, built or in prebuilt/: ./pqds --prove builds it, PQDS=FILE names one' >&2
+    exit 1
 fi
-if [ -f "$top/prebuilt/pqds.gz" ] && [ "$(said_of sources)" = "$(digest_of_sources)" ]; then
-    gzip -dc "$top/prebuilt/pqds.gz" >"$unpacked.$$" && sum=$(sha256sum <"$unpacked.$$") &&
-        [ "${sum%% *}" = "$(said_of program)" ] && chmod +x "$unpacked.$$" && mv -f -- "$unpacked.$$" "$unpacked" && {
-        printf '%s\n' "$unpacked"
-        exit 0
-    }
-    rm -f -- "$unpacked.$$"
-fi
-echo 'program.sh: no program of these sources: neither crates/pqds/out/pqds nor prebuilt/pqds.gz was made of them.' >&2
-echo 'program.sh: ./pqds --prove proves and builds it.' >&2
-exit 1

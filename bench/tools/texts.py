@@ -14,7 +14,8 @@ import subprocess
 import sys
 import tempfile
 
-TOP = os.path.dirname(os.path.dirname(os.path.dirname(os.path.abspath(__file__))))
+import command_line
+
 decimal.getcontext().prec = 60
 EPOCH = datetime.datetime(1970, 1, 1)
 DAYS = (-719162, 2932896)
@@ -138,9 +139,9 @@ def differ(what, wanted, path):
 
 
 def main():
-    rows = int(sys.argv[1]) if len(sys.argv) > 1 else 100000
-    random.seed(int(sys.argv[2]) if len(sys.argv) > 2 else 1)
-    program = os.environ.get("PQDS") or subprocess.check_output(["sh", os.path.join(TOP, "bench", "tools", "program.sh")], text=True).strip()
+    rows, seed = command_line.numbers(__doc__, 100000, 1)
+    random.seed(seed)
+    program = command_line.program()
     values = [{it["name"]: value_for(it) for it in SCHEMA} for _ in range(rows)]
     numbers = [line({it["name"]: plain(row[it["name"]]) for it in SCHEMA}) for row in values]
     texts = [line({it["name"]: shown(it, row[it["name"]]) for it in SCHEMA}) for row in values]
@@ -148,9 +149,9 @@ def main():
         def at(name):
             return os.path.join(folder, name)
 
-        def run(out, *words):
+        def run(out, *parts):
             with open(out, "w", encoding="utf-8") as file:
-                subprocess.run([program, *words], stdout=file, check=True)
+                subprocess.run([program, *parts], stdout=file, check=True)
 
         for name, lines in (("schema", [json.dumps(SCHEMA)]), ("numbers", numbers), ("texts", texts)):
             with open(at(name), "w", encoding="utf-8") as file:

@@ -7,6 +7,7 @@ It knows the encodings, and nothing of the product. With `--stdin` it prints wha
 import os
 import sys
 
+import command_line
 from compact import uleb, zigzag
 
 TOP = os.path.join(os.path.dirname(os.path.abspath(__file__)), "..", "..", "crates", "value_cases")
@@ -161,6 +162,7 @@ def of_noise():
 
 
 def main():
+    command_line.only(__doc__, "--stdin")
     if "--stdin" in sys.argv:
         for line in open(os.path.join(TOP, "stdout"), encoding="utf-8"):
             line = line.rstrip("\n")
@@ -182,4 +184,5 @@ def main():
         print()
 
 
-main()
+if __name__ == "__main__":
+    main()

@@ -2,20 +2,8 @@
 
 use crate::places::FilePlace;
 use bits::{R, Refusal};
-use case_words::{bytes, count, natural, word};
+use case_words::{bytes, count, natural, text_after, word};
 use std::alloc::Global;
-
-/// What stands in a line after so many words and the space after each.
-pub fn after(line: &str, words: u32) -> &str {
-    let mut rest = line;
-    for _ in 0..words {
-        rest = match rest.split_once(' ') {
-            Some((_, rest)) => rest,
-            None => "",
-        };
-    }
-    rest
-}
 
 /// Puts a line at the end of a file, so many times.
 fn add_lines<P: FilePlace>(
@@ -62,10 +50,10 @@ fn cut<P: FilePlace>(place: &mut P, path: &str, length: usize) -> R<()> {
 pub fn done<P: FilePlace>(place: &mut P, alloc: Global, words: &[&str], line: &str) -> R<String> {
     let first = word(words, 1)?;
     match word(words, 0)? {
-        "put" => add_lines(place, alloc, first, 1, after(line, 2))?,
+        "put" => add_lines(place, alloc, first, 1, text_after(line, 2))?,
         "times" => {
             let times = natural(first)?;
-            add_lines(place, alloc, word(words, 2)?, times, after(line, 3))?;
+            add_lines(place, alloc, word(words, 2)?, times, text_after(line, 3))?;
         }
         "bytes" => place.add(first, bytes(alloc, words, 2)?.as_slice())?,
         "copy" => copy(place, first, word(words, 2)?)?,

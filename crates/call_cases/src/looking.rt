@@ -1,9 +1,8 @@
 //! What is in files and folders.
 
-use crate::changing::after;
 use crate::places::FilePlace;
 use bits::{R, Refusal};
-use case_words::{word, yes_or_no};
+use case_words::{joined, text_after, word, yes_or_no};
 use program::text_of;
 use std::alloc::Global;
 
@@ -19,21 +18,6 @@ fn names_in<P: FilePlace>(place: &mut P, alloc: Global, folder: &str) -> R<Strin
     joined(alloc, names.as_slice())
 }
 
-/// Texts with a space between them; `none` where there are none.
-fn joined(alloc: Global, texts: &[String]) -> R<String> {
-    let mut all = String::new(alloc);
-    for text in texts {
-        if !all.is_empty() {
-            all.push_str(" ")?;
-        }
-        all.push_str(text.as_str())?;
-    }
-    if all.is_empty() {
-        all.push_str("none")?;
-    }
-    Ok(all)
-}
-
 /// What is seen of a file.
 fn seen_of<P: FilePlace>(place: &P, alloc: Global, words: &[&str], line: &str) -> R<String> {
     let there = place.read(word(words, 1)?)?;
@@ -43,7 +27,7 @@ fn seen_of<P: FilePlace>(place: &P, alloc: Global, words: &[&str], line: &str) -
             let other = place.read(word(words, 2)?)?;
             yes_or_no(alloc, there == other.as_slice())
         }
-        "has" => yes_or_no(alloc, text_of(there)?.contains(after(line, 2))),
+        "has" => yes_or_no(alloc, text_of(there)?.contains(text_after(line, 2))),
         "last" => Ok(String::from_str(alloc, last_line(text_of(there)?))?),
         "length" => {
             let length = there.len();

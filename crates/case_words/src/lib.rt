@@ -9,11 +9,11 @@ mod values;
 mod words;
 
 pub use texts::{
-    agreed, begun, both, hexed, hexed_option, joined, listed, shown_bytes, shown_numbers, written,
-    yes_or_no,
+    agreed, begun, both, hexed, hexed_option, joined, joined_by, listed, or_refused, shown_bytes,
+    shown_numbers, written, yes_or_no,
 };
 pub use values::{entry_parts, shown_entry, shown_value, shown_values, value_of};
 pub use words::{
-    bytes, bytes_of, count, natural, naturals, number, numbers, part, range, repeated,
-    small_naturals, small_numbers, width, word, words_from,
+    bytes, bytes_of, count, is_remark, natural, naturals, number, numbers, part, range, repeated,
+    small, small_natural, small_naturals, small_numbers, text_after, width, word, words_from,
 };

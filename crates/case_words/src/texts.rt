@@ -187,17 +187,30 @@ pub fn both(alloc: Global, one: R<String>, other: R<String>) -> R<String> {
     }
 }
 
-/// Texts with a space between them; `none` where there are none.
+/// Texts with a space between them; `none` if there are none.
 pub fn joined(alloc: Global, texts: &[String]) -> R<String> {
+    joined_by(alloc, texts, " ", "none")
+}
+
+/// Texts with a mark between them; another text if there are none.
+pub fn joined_by(alloc: Global, texts: &[String], mark: &str, nothing: &str) -> R<String> {
     let mut all = String::new(alloc);
     for text in texts {
         if !all.is_empty() {
-            all.push_str(" ")?;
+            all.push_str(mark)?;
         }
         all.push_str(text.as_str())?;
     }
     if all.is_empty() {
-        all.push_str("none")?;
+        all.push_str(nothing)?;
     }
     Ok(all)
+}
+
+/// The outcome of a line: its text, or its refusal.
+pub fn or_refused(alloc: Global, outcome: R<String>) -> R<String> {
+    match outcome {
+        Ok(text) => Ok(text),
+        Err(refusal) => Ok(format!(in alloc; "refused {refusal}")?),
+    }
 }

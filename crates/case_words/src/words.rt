@@ -5,6 +5,23 @@ ghost use Rattle.std.specs.Prelude.{◌≤◌, IfOk};
 use bits::{R, Refusal};
 use std::alloc::Global;
 
+/// Whether a line is printed as it is: an empty one, or one that begins with `#`.
+pub fn is_remark(line: &str) -> bool {
+    line.is_empty() || line.starts_with('#')
+}
+
+/// What follows the first words of a line, each with the space after it; nothing if there are fewer.
+pub fn text_after(line: &str, count: usize) -> &str {
+    let mut rest = line;
+    for _ in 0..count {
+        match rest.split_once(' ') {
+            Some((_, after)) => rest = after,
+            None => return "",
+        }
+    }
+    rest
+}
+
 /// The word at a place; Script where there is none.
 pub fn word<'a>(words: &[&'a str], at: usize) -> R<&'a str> {
     match words.get(at) {
@@ -39,6 +56,22 @@ pub fn natural(text: &str) -> R<u64> {
 /// A number.
 pub fn number(text: &str) -> R<i64> {
     match text.parse::<i64>() {
+        Ok(number) => Ok(number),
+        Err(_) => Err(Refusal::Script),
+    }
+}
+
+/// A number of at most 32 bits.
+pub fn small(text: &str) -> R<i32> {
+    match text.parse::<i32>() {
+        Ok(number) => Ok(number),
+        Err(_) => Err(Refusal::Script),
+    }
+}
+
+/// A number from 0 on, of at most 32 bits.
+pub fn small_natural(text: &str) -> R<u32> {
+    match text.parse::<u32>() {
         Ok(number) => Ok(number),
         Err(_) => Err(Refusal::Script),
     }

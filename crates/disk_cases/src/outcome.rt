@@ -1,7 +1,7 @@
 //! What a call gives, and how it is printed.
 
 use bits::{R, Refusal};
-use case_words::hexed;
+use case_words::{hexed, joined_by};
 use disk::{Entry, Fault, Kind};
 use std::alloc::Global;
 
@@ -159,17 +159,7 @@ pub fn shown_names(alloc: Global, entries: &[Entry]) -> R<String> {
     joined(alloc, names.as_slice(), ",")
 }
 
-/// Texts with a mark between them; `nothing` where there are none.
+/// Texts with a mark between them; `nothing` if there are none.
 pub fn joined(alloc: Global, texts: &[String], mark: &str) -> R<String> {
-    let mut all = String::new(alloc);
-    for text in texts {
-        if !all.is_empty() {
-            all.push_str(mark)?;
-        }
-        all.push_str(text.as_str())?;
-    }
-    if all.is_empty() {
-        all.push_str("nothing")?;
-    }
-    Ok(all)
+    joined_by(alloc, texts, mark, "nothing")
 }

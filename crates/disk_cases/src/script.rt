@@ -5,14 +5,10 @@ use crate::images::left;
 use crate::lines::made;
 use crate::stops::stops;
 use bits::R;
+use case_words::is_remark;
 use mem_disk::MemDisk;
 use std::alloc::Global;
 use vault::Vault;
-
-/// Whether a line is printed as it is.
-pub fn is_remark(line: &str) -> bool {
-    line.is_empty() || line.starts_with('#')
-}
 
 /// The line as it is printed: with what both disks give, or with what the disk in memory gives and the host, if it gives anything
 /// else.

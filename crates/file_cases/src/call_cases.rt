@@ -1,10 +1,11 @@
 //! Calls and answers as JSON.
 
 use crate::json_cases::shown_elements;
-use crate::schemas::{rows_of, shown_rows, text_after};
+use crate::schemas::{rows_of, shown_rows};
 use bits::{R, Refusal};
 use case_words::{
-    count, hexed, listed, natural, naturals, part, shown_numbers, value_of, word, words_from,
+    count, hexed, listed, natural, naturals, part, shown_numbers, text_after, value_of, word,
+    words_from,
 };
 use jsonrows::{ScriptReader, answer_to, call_from, schema_from};
 use schema::{Key, Schema};

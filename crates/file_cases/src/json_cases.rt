@@ -1,10 +1,10 @@
 //! Rows, schemas and filters as JSON.
 
 use crate::records::shown_struct;
-use crate::schemas::{rows_of, text_after};
+use crate::schemas::rows_of;
 use assemble::{RowBuilder, show_repeated_row, show_row};
 use bits::{R, Refusal};
-use case_words::{both, shown_numbers, word, words_from};
+use case_words::{both, shown_numbers, text_after, word, words_from};
 use filter::Filter;
 use jsonrows::{Reader, RowPlan, RowText, filter_from, row_from, row_to, schema_from, schema_to};
 use schema::{Element, Row, Schema};

@@ -19,7 +19,7 @@ mod writing_cases;
 
 use crate::names::Names;
 use bits::{R, Refusal};
-use case_words::{word, words_from};
+use case_words::{is_remark, or_refused, word, words_from};
 use std::alloc::Global;
 use std::io;
 
@@ -67,10 +67,7 @@ fn outcome(alloc: Global, line: &str, words: &[&str]) -> R<String> {
 
 /// What is printed after a case.
 fn said(alloc: Global, line: &str, words: &[&str]) -> R<String> {
-    match outcome(alloc, line, words) {
-        Ok(text) => Ok(text),
-        Err(refusal) => Ok(format!(in alloc; "refused {refusal}")?),
-    }
+    or_refused(alloc, outcome(alloc, line, words))
 }
 
 /// What is printed after a case, or after a rule that makes many of one.
@@ -95,7 +92,7 @@ fn outcome_of(alloc: Global, names: &mut Names, line: &str) -> R<Option<String>>
 
 /// The line that is printed: a comment, an empty line and a definition as they are, a case with its outcome after it.
 fn answered(alloc: Global, names: &mut Names, line: &str) -> R<String> {
-    if line.is_empty() || line.starts_with('#') {
+    if is_remark(line) {
         return Ok(String::from_str(alloc, line)?);
     }
     let text = match outcome_of(alloc, names, line) {

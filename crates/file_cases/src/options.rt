@@ -1,17 +1,10 @@
 //! Options of writing, and how they are written: `standard`, or what differs from that, as `group=7,page=3,version=2,style=delta`.
 
 use bits::{R, Refusal};
+use case_words::small_natural;
 use footer::WriteOptions;
 use pages::PageVersion;
 use row_group::{ChunkOptions, Style};
-
-/// A number of an option.
-fn small(text: &str) -> R<u32> {
-    match text.parse::<u32>() {
-        Ok(number) => Ok(number),
-        Err(_) => Err(Refusal::Script),
-    }
-}
 
 /// A version of pages, which may be none.
 fn version(text: &str) -> R<u8> {
@@ -39,8 +32,8 @@ fn change(options: &mut WriteOptions, option: &str) -> R<()> {
         return Err(Refusal::Script);
     };
     match name {
-        "group" => options.group_rows = small(value)?,
-        "page" => options.page_rows = small(value)?,
+        "group" => options.group_rows = small_natural(value)?,
+        "page" => options.page_rows = small_natural(value)?,
         "version" => options.page_version = version(value)?,
         "style" => options.style = style(value)?,
         _ => return Err(Refusal::Script),

@@ -1,7 +1,7 @@
 //! Records of chunks and groups, and how they are written.
 
 use bits::{R, Refusal};
-use case_words::{hexed, number};
+use case_words::{hexed, number, small};
 use metadata::{ChunkMeta, ColumnMeta, GroupMeta};
 use schema::{Leaf, Schema};
 use std::alloc::Global;
@@ -29,14 +29,6 @@ fn plain_record(alloc: Global, leaf: Option<&Leaf>) -> R<ColumnMeta> {
         dictionary_page_offset: None,
         statistics: None,
     })
-}
-
-/// A small number.
-fn small(text: &str) -> R<i32> {
-    match text.parse::<i32>() {
-        Ok(number) => Ok(number),
-        Err(_) => Err(Refusal::Script),
-    }
 }
 
 /// Changes a field of a record.

@@ -1,6 +1,7 @@
 //! The words of a line that are a schema, a leaf or rows.
 
 use bits::{R, Refusal};
+use case_words::joined;
 use jsonrows::{row_from, row_to, schema_from};
 use schema::{Leaf, Row, Schema, same};
 use std::alloc::Global;
@@ -33,26 +34,13 @@ pub fn rows_of(alloc: Global, schema: &Schema, words: &[&str]) -> R<Vec<Row>> {
     Ok(rows)
 }
 
-/// Rows as JSON, with a space between them; `none` where there are none.
+/// Rows as JSON, with a space between them; `none` if there are none.
 pub fn shown_rows(alloc: Global, schema: &Schema, rows: &[Row]) -> R<String> {
-    let mut text = String::new(alloc);
+    let mut texts = Vec::new(alloc);
     for row in rows {
-        put_row(alloc, schema, row, &mut text)?;
+        texts.push(row_to(alloc, schema, row)?)?;
     }
-    if text.is_empty() {
-        text.push_str("none")?;
-    }
-    Ok(text)
-}
-
-/// Appends a row as JSON, and a space before it where others are there.
-fn put_row(alloc: Global, schema: &Schema, row: &Row, text: &mut String) -> R<()> {
-    let shown = row_to(alloc, schema, row)?;
-    if !text.is_empty() {
-        text.push(' ')?;
-    }
-    text.push_str(shown.as_str())?;
-    Ok(())
+    joined(alloc, texts.as_slice())
 }
 
 /// Whether two rows are the same.
@@ -72,16 +60,4 @@ pub fn are_same(rows: &[Row], others: &[Row]) -> bool {
             .iter()
             .zip(others.iter())
             .all(|(one, other)| is_same_row(one, other))
-}
-
-/// What follows the first words of a line, each with the space after it; nothing where there are fewer.
-pub fn text_after(line: &str, count: usize) -> &str {
-    let mut rest = line;
-    for _ in 0..count {
-        match rest.split_once(' ') {
-            Some((_, after)) => rest = after,
-            None => return "",
-        }
-    }
-    rest
 }

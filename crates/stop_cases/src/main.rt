@@ -13,7 +13,7 @@ mod stops;
 
 use crate::reopenings::{Stops, Work};
 use bits::{R, Refusal};
-use case_words::{natural, word};
+use case_words::{is_remark, natural, or_refused, word};
 use std::alloc::Global;
 use std::io;
 
@@ -54,14 +54,11 @@ fn outcome(alloc: Global, words: &[&str]) -> R<String> {
 
 /// The line that is printed: a comment or an empty line as it is, another one with its outcome after it.
 fn answered(alloc: Global, line: &str) -> R<String> {
-    if line.is_empty() || line.starts_with('#') {
+    if is_remark(line) {
         return Ok(String::from_str(alloc, line)?);
     }
     let words: Vec<&str> = line.split_whitespace().collect(alloc)?;
-    let text = match outcome(alloc, words.as_slice()) {
-        Ok(text) => text,
-        Err(refusal) => format!(in alloc; "refused {refusal}")?,
-    };
+    let text = or_refused(alloc, outcome(alloc, words.as_slice()))?;
     Ok(format!(in alloc; "{line} = {text}")?)
 }
 

@@ -2,7 +2,7 @@
 
 use crate::disks::Cases;
 use bits::{R, Refusal};
-use case_words::{natural, word};
+use case_words::{joined, natural, word};
 use jsonrows::{answer_to, call_from};
 use mem_disk::MemDisk;
 use std::alloc::Global;
@@ -110,24 +110,17 @@ pub fn rows_of(alloc: Global, store: &mut Store<MemDisk>) -> R<String> {
 
 /// The batches of a cursor, to its end.
 fn fetched_rows(alloc: Global, store: &mut Store<MemDisk>, cursor: u64) -> R<String> {
-    let mut text = String::new(alloc);
+    let mut texts = Vec::new(alloc);
     for _ in 0..u64::MAX {
         match store.fetch(alloc, cursor)? {
             Fetched::Batch(batch) => {
                 let answer = Answer::Batch(batch);
-                let more = answer_to(alloc, store.schema(), &answer)?;
-                if !text.is_empty() {
-                    text.push_str(" ")?;
-                }
-                text.push_str(more.as_str())?;
+                texts.push(answer_to(alloc, store.schema(), &answer)?)?;
             }
             Fetched::End => break,
         }
     }
-    if text.is_empty() {
-        text.push_str("none")?;
-    }
-    Ok(text)
+    joined(alloc, texts.as_slice())
 }
 
 /// `drain CURSOR`: fetches to the end: how many batches come, and the last of them.

@@ -1,7 +1,7 @@
 //! The disk of the lines, and the store on it.
 
 use bits::{R, Refusal};
-use case_words::{natural, word, yes_or_no};
+use case_words::{natural, small_natural, word, yes_or_no};
 use disk::Disk;
 use footer::WriteOptions;
 use jsonrows::schema_from;
@@ -42,7 +42,7 @@ impl Cases {
     /// The options with a size of groups.
     pub fn options_of(&self, size: &str) -> R<WriteOptions> {
         let mut options = self.options;
-        options.group_rows = u32::try_from(natural(size)?).map_err(|_| Refusal::Script)?;
+        options.group_rows = small_natural(size)?;
         Ok(options)
     }
 
@@ -73,7 +73,7 @@ pub fn ok(alloc: Global) -> R<String> {
 
 /// `options STYLE ROWS VERSION`: from now on files are written in this style, in pages of so many rows and this version.
 pub fn options(alloc: Global, cases: &mut Cases, words: &[&str]) -> R<String> {
-    let page_rows = u32::try_from(natural(word(words, 2)?)?).map_err(|_| Refusal::Script)?;
+    let page_rows = small_natural(word(words, 2)?)?;
     let page_version = u8::try_from(natural(word(words, 3)?)?).map_err(|_| Refusal::Script)?;
     cases.options.style = style_of(word(words, 1)?)?;
     cases.options.page_rows = page_rows;

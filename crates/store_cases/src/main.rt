@@ -15,7 +15,7 @@ mod upkeep_lines;
 use crate::disks::Cases;
 use crate::kept::{Kept, way_of};
 use bits::{R, Refusal};
-use case_words::{naturals, word, words_from};
+use case_words::{is_remark, naturals, or_refused, word, words_from};
 use std::alloc::Global;
 use std::io;
 
@@ -68,15 +68,12 @@ fn outcome(alloc: Global, cases: &mut Cases, line: &str, words: &[&str]) -> R<St
 
 /// The line that is printed: a comment or an empty line as it is, another one with its outcome after it.
 fn answered(alloc: Global, cases: &mut Cases, kept: &mut Kept, line: &str) -> R<String> {
-    if line.is_empty() || line.starts_with('#') {
+    if is_remark(line) {
         return Ok(String::from_str(alloc, line)?);
     }
     let (way, body) = way_of(line);
     let words: Vec<&str> = body.split_whitespace().collect(alloc)?;
-    let text = match outcome(alloc, cases, body, words.as_slice()) {
-        Ok(text) => text,
-        Err(refusal) => format!(in alloc; "refused {refusal}")?,
-    };
+    let text = or_refused(alloc, outcome(alloc, cases, body, words.as_slice()))?;
     let text = kept.told(alloc, way, text)?;
     Ok(format!(in alloc; "{line} = {text}")?)
 }

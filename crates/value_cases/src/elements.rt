@@ -4,7 +4,7 @@
 
 use crate::kinds::{converted_name, converted_type};
 use bits::{R, Refusal};
-use case_words::{bytes_of, hexed, natural, range, repeated};
+use case_words::{bytes_of, hexed, natural, range, repeated, small};
 use schema::{Element, Schema};
 use std::alloc::Global;
 use thrift_compact::{Tree, read_struct, write_struct};
@@ -48,14 +48,6 @@ fn plain_element(alloc: Global, name: &str, repetition: i32) -> R<Element> {
         field_id: None,
         logical_type: None,
     })
-}
-
-/// A small number.
-fn small(text: &str) -> R<i32> {
-    match text.parse::<i32>() {
-        Ok(number) => Ok(number),
-        Err(_) => Err(Refusal::Script),
-    }
 }
 
 /// The struct of these bytes.

@@ -17,7 +17,7 @@ mod texts;
 mod values;
 
 use bits::{R, Refusal};
-use case_words::{bytes_of, hexed, listed, word, words_from};
+use case_words::{bytes_of, hexed, is_remark, listed, or_refused, word, words_from};
 use std::alloc::Global;
 use std::io;
 
@@ -71,10 +71,7 @@ fn outcome(alloc: Global, words: &[&str]) -> R<String> {
 
 /// What is printed after a case.
 fn said(alloc: Global, words: &[&str]) -> R<String> {
-    match outcome(alloc, words) {
-        Ok(text) => Ok(text),
-        Err(refusal) => Ok(format!(in alloc; "refused {refusal}")?),
-    }
+    or_refused(alloc, outcome(alloc, words))
 }
 
 /// What is printed after the case whose last word has these bytes in its place.
@@ -105,7 +102,7 @@ fn cuts(alloc: Global, words: &[&str]) -> R<String> {
 
 /// The line that is printed: a comment or an empty line as it is, a case with its outcome after it.
 fn answered(alloc: Global, line: &str) -> R<String> {
-    if line.is_empty() || line.starts_with('#') {
+    if is_remark(line) {
         return Ok(String::from_str(alloc, line)?);
     }
     let words: Vec<&str> = line.split_whitespace().collect(alloc)?;
