@@ -45,6 +45,6 @@ if [ -z "$program" ]; then
     program=$("$top/bench/tools/program.sh") || exit 1
 fi
 mkdir -p "$room/opt/pqds" || exit 1
-cp -- "$program" "$room/opt/pqds/pqds" && cp -- "$top"/bench/peers/*.py "$top/docs/TUTORIAL.md" "$room/opt/pqds/" &&
+cp --remove-destination -- "$program" "$room/opt/pqds/pqds" && cp --remove-destination -- "$top"/bench/peers/*.py "$top/docs/TUTORIAL.md" "$room/opt/pqds/" &&
     cp -r -- "$top/sample" "$room/opt/pqds/" && chmod 755 "$room/opt/pqds/pqds" || exit 1
-inside env TIMES="${TIMES:-5}" python3 -W ignore /opt/pqds/peers.py /opt/pqds/pqds /usr/share/apache/parquet-testing "$@"
+inside env TIMES="${TIMES:-5}" ROWS="${ROWS:-100000000}" python3 -W ignore /opt/pqds/peers.py /opt/pqds/pqds /usr/share/apache/parquet-testing "$@"

@@ -5,7 +5,8 @@
 #     bench/peers/python.sh ROOM [PROGRAM]       PROGRAM is the program; without it the one that ./pqds builds
 #
 # Prints what python/tests prints. With the words `--speed ROWS` after PROGRAM it prints instead what frames of so many rows take,
-# beside fastparquet and pyarrow; with `--workers ROWS`, what so many rows take from four workers of Dask. It is not in the gate.
+# beside fastparquet and pyarrow; with `--workers ROWS`, what so many rows take from four workers of Dask; with `--moving`, what each
+# line of docs/PYTHON.md on fastparquet gives there and here. It is not in the gate.
 top=$(CDPATH='' cd -- "$(dirname -- "$0")/../.." && pwd) || exit 1
 [ -n "$1" ] || { sed -n '2,/^[^#]/s/^# \{0,1\}//p' "$0" | sed '/^top=/d' >&2; exit 2; }
 room=$(CDPATH='' cd -- "$1" && pwd) || exit 1
@@ -19,6 +20,7 @@ here=/opt/pqds-module
 case $3 in
 --speed) set -- "$here/bench/peers/python_speed.py" "$4" ;;
 --workers) set -- "$here/bench/peers/python_workers.py" "$4" ;;
+--moving) set -- "$here/bench/peers/moving.py" ;;
 *) set -- "$here/python/tests" ;;
 esac
 # The repository itself is there as long as the words run.
