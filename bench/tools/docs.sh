@@ -27,7 +27,8 @@ only_program = "--program" in words
 named = [it for it in words if it != "--program"]
 LONG = {"rt ci", ".ci/run", "./test", "./test --quick", "bench/tools/gate.sh", "bench/tools/edits.sh", "bench/tools/docs.sh", "bench/tools/docs.sh docs/PYTHON.md", "bench/faults/crash.sh", "bench/faults/crash.sh --syncs",
         "bench/faults/allocations.sh", "bench/faults/stops.sh", "bench/faults/locks.sh", "bench/tools/prebuilt.sh", "bench/peers/peers.sh ROOM", "bench/peers/peers.sh ROOM PROGRAM side",
-        "bench/peers/peers.sh ROOM PROGRAM sums", "bench/peers/python.sh ROOM PROGRAM --speed 1000000",
+        "bench/peers/peers.sh ROOM PROGRAM sums", "bench/peers/peers.sh ROOM PROGRAM forms", "bench/peers/peers.sh ROOM PROGRAM ones", "bench/peers/peers.sh ROOM PROGRAM growth",
+        "bench/peers/peers.sh ROOM PROGRAM memory", "bench/peers/peers.sh ROOM PROGRAM large", "bench/peers/python.sh ROOM PROGRAM --moving", "bench/peers/python.sh ROOM PROGRAM --speed 1000000",
         "bench/peers/python.sh ROOM PROGRAM --workers 10000000", "bench/speed/table.sh", "./pqds --prove"}
 CALL = re.compile(r"`((?:\./pqds|rt|bench/\w+/\w+\.sh|\.ci/run|\(cd crates/\w+ && rt)(?: [^`]*|\w[^`]*)?)`(?: prints `([^`]*)`)?")
 HELP = re.compile(r"## `pqds ?([\w-]*)`$")
