@@ -633,7 +633,7 @@ def questions(it):
         tables.clear("pqds")
         it.pqds("append", tables.folder("pqds"), write_lines(it.file("rows.jsonl"), tables.columns, range(MILLION)))
         queried(it, tables, f"all {MILLION:,} rows, {tables.words}", MILLION)
-        counted(it, tables, text_of(MILLION - 223))
+    counted(it, tables, text_of(MILLION - 223))
     queried(it, tables, f"{MILLION // 100:,} rows of one key of 100", MILLION // 100, key="key 42")
     queried(it, tables, f"one column of {MILLION:,} rows of 100 keys", MILLION, columns=["n"])
     queried(it, tables, f"one row of {MILLION:,} by a text that no statistics rule out", 1, text=text_of(MILLION - 223))
