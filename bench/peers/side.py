@@ -6,7 +6,7 @@ imported them. A cell has seconds, processor seconds and the most memory in MB (
 imports), and in brackets what pqds takes of the first two in times of these. Of what writes a dataset, `synced` is
 the time of all files and folders written and synced: pqds never does it otherwise, the others leave it to the caller.
 The variable TIMES has how many runs there are of each (5)."""
-import glob, json, os, resource, shutil, subprocess, time
+import glob, json, os, resource, shutil, subprocess, tempfile, time
 
 import pyarrow as pa
 import pyarrow.dataset as ds
@@ -55,22 +55,21 @@ class Side:
         return self.file(name)
 
 
-NOTED = f"/tmp/side.{os.getpid()}.memory"  # of this run: two may be made at once
-
-
 def ran(words, out, environment):
     """Seconds, processor seconds and the memory of a process. The system counts as a child's the memory of what began it; so the
     program `time`, which is small, begins it."""
-    with open(out or os.devnull, "wb") as sink:
+    with open(out or os.devnull, "wb") as sink, tempfile.NamedTemporaryFile() as noted:
         begun = time.perf_counter()
-        child = subprocess.Popen(["time", "-q", "-o", NOTED, "-f", "%M", *words], stdout=sink, stderr=subprocess.PIPE, env=environment)
+        timed = ["time", "-q", "-o", noted.name, "-f", "%M", *words]
+        child = subprocess.Popen(timed, stdout=sink, stderr=subprocess.PIPE, env=environment)
         said = child.stderr.read().decode().strip()
         _, status, used = os.wait4(child.pid, 0)
         seconds = time.perf_counter() - begun
+        memory = noted.read().decode()
     child.returncode = os.waitstatus_to_exitcode(status)
     if status:
         raise RuntimeError(f"{' '.join(words)[:200]}: {said}")
-    return seconds, used.ru_utime + used.ru_stime, int(open(NOTED).read()) >> 10
+    return seconds, used.ru_utime + used.ru_stime, int(memory) >> 10
 
 
 def most_memory():
@@ -365,27 +364,28 @@ def mean(times):
 
 
 def peaks(it):
-    """What appends and imports of one and of four million rows take, each once: of the lines of JSON, and of a file of one group
-    after another."""
+    """What appends and imports of one and of four million rows take, each once; fastparquet, which would take gigabytes, is left
+    out. The lines are those that pqds prints of the file."""
     head("one and four million rows")
     for keys in (0, 100):
         tables = Tables(it, keys)
         for millions in (1, 4):
-            lines = write_lines(it.file("more.jsonl"), tables.columns, range(millions * MILLION))
+            file, lines, rows = it.file("import.parquet"), it.file("more.jsonl"), millions * MILLION
+            made = {name: [make(i) for i in range(rows)] for name, make in tables.columns.items()}
+            pq.write_table(pa.table(made, schema=tables.schema), file, compression="NONE", use_dictionary=False)
+            it.pqds("decode", file, out=lines)
             found = {}
             for who, work in tables.works(lines).items():
+                if who == "fastparquet":
+                    continue
                 tables.clear(who)
                 found[who] = work()
-                if tables.rows(who)[0] != millions * MILLION:
-                    it.tell(f"side, append of {millions} million rows by {who}: {tables.rows(who)}")
-            row(f"append of {millions},000,000 lines of {os.path.getsize(lines) / MILLION:.0f} MB, {tables.words}", found)
-            os.remove(lines)
-            file = it.file("import.parquet")
-            made = {name: [make(i) for i in range(millions * MILLION)] for name, make in tables.columns.items()}
-            pq.write_table(pa.table(made, schema=tables.schema), file, compression="NONE", use_dictionary=False)
+                if tables.rows(who)[0] != rows:
+                    it.tell(f"side, append of {rows} rows by {who}: {tables.rows(who)}")
+            row(f"`append` of {rows:,} lines, {os.path.getsize(lines) / MILLION:.0f} MB, {tables.words}", found)
             tables.clear("pqds")
-            size = os.path.getsize(file) / MILLION
-            row(f"import of {millions},000,000 rows of a file of {size:.0f} MB, {tables.words}", {"pqds": it.pqds("import", tables.folder("pqds"), file)})
+            row(f"`import` of the file, {os.path.getsize(file) / MILLION:.0f} MB", {"pqds": it.pqds("import", tables.folder("pqds"), file)})
+            os.remove(lines)
 
 
 # ---- questions ----
