@@ -386,6 +386,13 @@ def peaks(it):
             tables.clear("pqds")
             row(f"`import` of the file, {os.path.getsize(file) / MILLION:.0f} MB", {"pqds": it.pqds("import", tables.folder("pqds"), file)})
             os.remove(lines)
+        parts = []
+        for part in range(4):
+            parts.append(it.file(f"part{part}.parquet"))
+            some = pa.table({name: values[part * MILLION:(part + 1) * MILLION] for name, values in made.items()}, schema=tables.schema)
+            pq.write_table(some, parts[-1], compression="NONE", use_dictionary=False)
+        tables.clear("pqds")
+        row("`import` of four such files of 1,000,000 rows, in one commit", {"pqds": it.pqds("import", tables.folder("pqds"), *parts)})
 
 
 # ---- questions ----
