@@ -403,7 +403,14 @@ class Sentences:
             self.it, "numbers", [KEY, NUMBER], [{"k": key, "n": 1} for key in ("1", "2")], "k"
         )
         self.expect("keys 1 and 2, by DuckDB", [1, 2], keys_by_duckdb, plain_numbers)
-        self.expect("the same, declared as texts", ["1", "2"], keys_by_duckdb, plain_numbers, texts)
+        self.expect("the same, by pyarrow", [1, 2], by_hive, plain_numbers)
+        self.expect(
+            "the same, by DuckDB, declared as texts",
+            ["1", "2"],
+            keys_by_duckdb,
+            plain_numbers,
+            texts,
+        )
         none = table(
             self.it,
             "none",

@@ -8,7 +8,9 @@ the time of all files and folders written and synced: pqds never does it otherwi
 The variable TIMES has how many runs there are of each (5)."""
 import glob, json, os, resource, shutil, subprocess, tempfile, time
 
+import numpy as np
 import pyarrow as pa
+import pyarrow.compute as pc
 import pyarrow.dataset as ds
 import pyarrow.json
 import pyarrow.parquet as pq
@@ -363,6 +365,18 @@ def mean(times):
     return [sum(it[0] for it in times) / len(times), sum(it[1] for it in times) / len(times), max(it[2] for it in times)]
 
 
+def rows_of(keys, first, count):
+    """The same rows as those of a table with so many keys, made at once."""
+    places = np.arange(first, first + count)
+    texts = pc.utf8_lpad(pc.cast(pa.array(places), pa.string()), 8, "0")
+    more = pa.DictionaryArray.from_arrays(pa.array(places % 8), ["x" * it for it in range(8)]).cast(pa.string())
+    columns = [pa.array(places), pc.binary_join_element_wise("row ", texts, more, "")]
+    if keys:
+        named = pa.array([f"key {key:02}" for key in range(keys)])
+        columns.insert(0, pa.DictionaryArray.from_arrays(pa.array(places % keys), named).cast(pa.string()))
+    return pa.table(columns, schema=KEYED if keys else BARE)
+
+
 def peaks(it):
     """What appends and imports of one and of four million rows take, each once; fastparquet, which would take gigabytes, is left
     out. The lines are those that pqds prints of the file."""
@@ -371,8 +385,7 @@ def peaks(it):
         tables = Tables(it, keys)
         for millions in (1, 4):
             file, lines, rows = it.file("import.parquet"), it.file("more.jsonl"), millions * MILLION
-            made = {name: [make(i) for i in range(rows)] for name, make in tables.columns.items()}
-            pq.write_table(pa.table(made, schema=tables.schema), file, compression="NONE", use_dictionary=False)
+            pq.write_table(rows_of(keys, 0, rows), file, compression="NONE", use_dictionary=False)
             it.pqds("decode", file, out=lines)
             found = {}
             for who, work in tables.works(lines).items():
@@ -386,13 +399,11 @@ def peaks(it):
             tables.clear("pqds")
             row(f"`import` of the file, {os.path.getsize(file) / MILLION:.0f} MB", {"pqds": it.pqds("import", tables.folder("pqds"), file)})
             os.remove(lines)
-        parts = []
-        for part in range(4):
-            parts.append(it.file(f"part{part}.parquet"))
-            some = pa.table({name: values[part * MILLION:(part + 1) * MILLION] for name, values in made.items()}, schema=tables.schema)
-            pq.write_table(some, parts[-1], compression="NONE", use_dictionary=False)
+        parts = [it.file(f"part{part}.parquet") for part in range(4)]
+        for part, name in enumerate(parts):
+            pq.write_table(rows_of(keys, part * MILLION, MILLION), name, compression="NONE", use_dictionary=False)
         tables.clear("pqds")
-        row("`import` of four such files of 1,000,000 rows, in one commit", {"pqds": it.pqds("import", tables.folder("pqds"), *parts)})
+        row("`import` of four files of 1,000,000 rows, in one commit", {"pqds": it.pqds("import", tables.folder("pqds"), *parts)})
 
 
 # ---- questions ----
