@@ -55,7 +55,8 @@ def timed(what, call):
     begun, before = time.perf_counter(), of_programs()
     found = call()
     seconds = time.perf_counter() - begun
-    print(f"{what:40} {seconds:7.2f} s, {of_programs() - before:.2f} s of the processor in the program", flush=True)
+    used = of_programs() - before
+    print(f"{what:40} {seconds:7.2f} s" + (f", {used:.2f} s of the processor in the program" if used else ""), flush=True)
     return found
 
 
