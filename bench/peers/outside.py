@@ -107,10 +107,10 @@ def rows_of(file):
 
 
 def decoded(program, file):
-    """The rows that PQDS prints, or its refusal."""
+    """The rows that PQDS prints, or its refusal: the last line of standard error, after the line that says why."""
     ran = subprocess.run([program, "decode", file], capture_output=True)
     if ran.returncode:
-        return None, ran.stderr.decode().strip()
+        return None, ran.stderr.decode().strip().split("\n")[-1]
     return [json.loads(line) for line in ran.stdout.decode().split("\n")[:-1]], ""
 
 

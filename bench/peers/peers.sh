@@ -6,11 +6,19 @@
 #
 # ROOM is a folder with Debian's unstable release and these tools in it, in which they run (chroot). Where it is absent it is
 # made, by debootstrap: 1.5 GB and some two minutes. This needs root, Linux and a mirror of Debian. PROGRAM is the program; without
-# it that of bench/tools/program.sh. The parts are corpus, files, datasets, queries, import, workers, tutorial (the steps of docs/TUTORIAL.md)
-# and sentences (of docs/FORMAT.md), all of them where none is named; and for figures sums (a sum by key, by workers of Dask) and
-# side (bench/peers/side.py: the same work by each of them), forms (of it, lines of JSON in three forms) and growth (what a table of
-# 100 to 40,000 groups takes). Prints for each how many were tried, equal and refused, with the cause; the status is 1 where there
-# is a difference without a cause. It is not in the gate.
+# it that of bench/tools/program.sh. The parts are corpus, files, datasets, queries, import, workers, tutorial (the steps of
+# docs/TUTORIAL.md) and sentences (of README.md and docs/FORMAT.md), all of them if none is named. For figures there are also:
+#
+#     side       the same work by each of them (bench/peers/side.py); TIMES=5 has how many runs there are of each
+#     forms      of it, lines of JSON in three forms
+#     ones       of it, 1,000 appends of one row each
+#     growth     what a table of 100 to 40,000 groups takes
+#     memory     what appends and imports of one and of four million rows take of it
+#     large      a table of 100,000,000 rows, which takes 3 GB of the disk for some minutes; ROWS=100000000 has how many
+#     sums       a sum by key of 10,000,000 rows, by workers of Dask
+#
+# Prints for each part how many were tried, equal and refused, with the cause; the status is 1 if there is a difference without a
+# cause. It is not in the gate.
 top=$(CDPATH='' cd -- "$(dirname -- "$0")/../.." && pwd) || exit 1
 . "$top/bench/tools/usage.sh"
 no_options "$@"
@@ -47,6 +55,6 @@ if [ ! -x "$room/usr/bin/duckdb" ]; then
     }
 fi
 mkdir -p "$room/opt/pqds" || exit 1
-cp -- "$program" "$room/opt/pqds/pqds" && cp -- "$top"/bench/peers/*.py "$top/docs/TUTORIAL.md" "$room/opt/pqds/" &&
+cp --remove-destination -- "$program" "$room/opt/pqds/pqds" && cp --remove-destination -- "$top"/bench/peers/*.py "$top/docs/TUTORIAL.md" "$room/opt/pqds/" &&
     cp -r -- "$top/sample" "$room/opt/pqds/" && chmod 755 "$room/opt/pqds/pqds" || exit 1
-inside env TIMES="${TIMES:-5}" python3 -W ignore /opt/pqds/peers.py /opt/pqds/pqds /usr/share/apache/parquet-testing "$@"
+inside env TIMES="${TIMES:-5}" ROWS="${ROWS:-100000000}" python3 -W ignore /opt/pqds/peers.py /opt/pqds/pqds /usr/share/apache/parquet-testing "$@"

@@ -5,12 +5,13 @@
 #     bench/peers/python.sh ROOM [PROGRAM]       PROGRAM is the program; without it that of bench/tools/program.sh
 #
 # Prints what python/tests prints. With the words `--speed ROWS` after PROGRAM it prints instead what frames of so many rows take,
-# next to fastparquet and pyarrow; with `--workers ROWS`, what so many rows take from four workers of Dask. It is not in the gate.
+# next to fastparquet and pyarrow; with `--workers ROWS`, what so many rows take from four workers of Dask; with `--moving`, what each
+# line of docs/PYTHON.md on fastparquet gives in both. It is not in the gate.
 top=$(CDPATH='' cd -- "$(dirname -- "$0")/../.." && pwd) || exit 1
 . "$top/bench/tools/usage.sh"
 case $1 in '' | -*) usage ;; esac
 case $3 in
-'') [ $# -le 3 ] || usage ;;
+'' | --moving) [ $# -le 3 ] || usage ;;
 --speed | --workers)
     [ $# -eq 4 ] || usage
     only_numbers "$4"
@@ -29,6 +30,7 @@ here=/opt/pqds-module
 case $3 in
 --speed) set -- "$here/bench/peers/python_speed.py" "$4" ;;
 --workers) set -- "$here/bench/peers/python_workers.py" "$4" ;;
+--moving) set -- "$here/bench/peers/moving.py" ;;
 *) set -- "$here/python/tests" ;;
 esac
 # The repository itself is there as long as the words run.

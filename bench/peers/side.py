@@ -6,10 +6,12 @@ imported them. A cell has seconds, processor seconds and the most memory in MB (
 imports), and in brackets what pqds takes of the first two in times of these. Of what writes a dataset, `synced` is
 the time of all files and folders written and synced: pqds never does it otherwise, the others leave it to the caller.
 The variable TIMES has how many runs there are of each (5)."""
-import glob, json, os, resource, shutil, subprocess, sys, time
+import glob, json, os, resource, shutil, subprocess, sys, tempfile, time
 
 try:
+    import numpy as np
     import pyarrow as pa
+    import pyarrow.compute as pc
     import pyarrow.dataset as ds
     import pyarrow.json
     import pyarrow.parquet as pq
@@ -58,22 +60,21 @@ class Side:
         return self.file(name)
 
 
-NOTED = "/tmp/side.memory"
-
-
 def ran(words, out, environment):
     """Seconds, processor seconds and the memory of a process. The system counts as a child's the memory of what began it; so the
     program `time`, which is small, begins it."""
-    with open(out or os.devnull, "wb") as sink:
+    with open(out or os.devnull, "wb") as sink, tempfile.NamedTemporaryFile() as noted:
         begun = time.perf_counter()
-        child = subprocess.Popen(["time", "-q", "-o", NOTED, "-f", "%M", *words], stdout=sink, stderr=subprocess.PIPE, env=environment)
+        timed = ["time", "-q", "-o", noted.name, "-f", "%M", *words]
+        child = subprocess.Popen(timed, stdout=sink, stderr=subprocess.PIPE, env=environment)
         said = child.stderr.read().decode().strip()
         _, status, used = os.wait4(child.pid, 0)
         seconds = time.perf_counter() - begun
+        memory = noted.read().decode()
     child.returncode = os.waitstatus_to_exitcode(status)
     if status:
         raise RuntimeError(f"{' '.join(words)[:200]}: {said}")
-    return seconds, used.ru_utime + used.ru_stime, int(open(NOTED).read()) >> 10
+    return seconds, used.ru_utime + used.ru_stime, int(memory) >> 10
 
 
 def most_memory():
@@ -115,16 +116,6 @@ def remove_all(files):
 
 def summed(times, more):
     return times[0] + more[0], times[1] + more[1], max(times[2], more[2])
-
-
-def repeated(work, count):
-    """The same work so many times, as one."""
-    def all_of_it():
-        times = (0, 0, 0)
-        for _ in range(count):
-            times = summed(times, work())
-        return times
-    return all_of_it
 
 
 def least(works, before=lambda who: None, after=lambda who: None):
@@ -239,20 +230,17 @@ def both_ways(it):
 
 # ---- datasets of each ----
 
-def key_of(i):
-    return f"key {i % 100:02}"
-
-
-COLUMNS = {"k": key_of, "n": lambda i: i, "t": text_of}
+COLUMNS = {"n": lambda i: i, "t": text_of}
 
 
 class Tables:
-    """A dataset of each of the four, with a key or without one."""
+    """A dataset of each of the four, with so many values of a key, or without a key."""
 
-    def __init__(self, it, keyed):
-        self.it, self.keyed, self.made = it, keyed, 0
-        self.columns = COLUMNS if keyed else {name: make for name, make in COLUMNS.items() if name != "k"}
-        self.schema = KEYED if keyed else BARE
+    def __init__(self, it, keys):
+        self.it, self.keyed, self.made = it, keys > 0, 0
+        self.columns = {"k": lambda i: f"key {i % keys:02}", **COLUMNS} if keys else COLUMNS
+        self.words = f"{keys} keys" if keys else "no key"
+        self.schema = KEYED if keys else BARE
         self.json = it.schema("table.json", self.schema)
         self.typed = "{" + ", ".join(f"'{one.name}': '{'BIGINT' if one.type == pa.int64() else 'VARCHAR'}'" for one in self.schema) + "}"
 
@@ -293,9 +281,9 @@ class Tables:
         return sum(pq.read_metadata(file).num_rows for file in found), len(found)
 
 
-def appended(it, tables, rows, onto):
+def appended(it, tables, rows, onto, form="printed"):
     """Appends rows to datasets with so many rows; prints what it took, and what it took with all files synced."""
-    lines = write_lines(it.file("more.jsonl"), tables.columns, range(onto, onto + rows))
+    lines = write_lines(it.file("more.jsonl"), tables.columns, range(onto, onto + rows), *FORMS[form])
     base = write_lines(it.file("base.jsonl"), tables.columns, range(onto)) if onto else None
     works, synced, parts = tables.works(lines), {}, {}
 
@@ -318,25 +306,25 @@ def appended(it, tables, rows, onto):
         if found != onto + rows:
             it.tell(f"side, append of {rows} by {who}: {found} rows")
 
-    what = f"{rows:,} rows, {'100 keys' if tables.keyed else 'no key'}, onto {onto:,}"
+    what = f"{rows:,} rows, {tables.words}, onto {onto:,}{'' if form == 'printed' else ', ' + form}"
     row(what, least({who: timed(who) for who in works}, before, after))
     row(f"{what}, synced", synced)
     print("| files then | " + " | ".join(str(parts[who]) for who in WHO) + " |")
 
 
 def appends(it):
-    head("append of lines of JSON")
-    for keyed in (False, True):
-        tables = Tables(it, keyed)
+    head("append of lines of JSON, and import")
+    for keys in (0, 10, 100):
+        tables = Tables(it, keys)
         appended(it, tables, 1000, 100_000)
-        appended(it, tables, MILLION, 0)
-        imported(it, keyed)
-    one_by_one(it)
+        for form in FORMS:
+            appended(it, tables, MILLION, 0, form)
+        imported(it, tables)
 
 
-def imported(it, keyed):
+def imported(it, tables):
     """A file of a million rows into an empty dataset of each."""
-    tables, file = Tables(it, keyed), it.file("import.parquet")
+    file, keyed = it.file("import.parquet"), tables.keyed
     made = {name: [make(i) for i in range(MILLION)] for name, make in tables.columns.items()}
     pq.write_table(pa.table(made, schema=tables.schema), file, compression="NONE", use_dictionary=False)
 
@@ -357,30 +345,82 @@ def imported(it, keyed):
     def after(who):
         if tables.rows(who)[0] != MILLION:
             it.tell(f"side, import by {who}: {tables.rows(who)}")
-    row(f"import of 1,000,000 rows, {'100 keys' if keyed else 'no key'}", least(works, tables.clear, after))
+    row(f"import of 1,000,000 rows, {tables.words}", least(works, tables.clear, after))
 
 
-def one_by_one(it, count=100):
-    """Appends of one row each, to a dataset without a key that is empty at first."""
-    tables = Tables(it, False)
-    works = {who: repeated(work, count) for who, work in tables.works(write_lines(it.file("one.jsonl"), tables.columns, range(1))).items()}
-
-    def after(who):
+def one_by_one(it, count=1000):
+    """Appends of one row each, once, to a dataset without a key that is empty at first; prints what the first, some in between
+    and the last of them took, of each the mean, and all of them together."""
+    head("appends of one row each")
+    tables, found = Tables(it, 0), {}
+    for who, work in tables.works(write_lines(it.file("one.jsonl"), tables.columns, range(1))).items():
+        tables.clear(who)
+        found[who] = [work() for _ in range(count)]
         if tables.rows(who)[0] != count:
             it.tell(f"side, appends of one row by {who}: {tables.rows(who)}")
-    row(f"{count} appends of one row each", least(works, tables.clear, after))
+    for first in (0, count // 10 - 10, count // 2 - 10, count - 10):
+        row(f"append {first + 1:,} to {first + 10:,}, each", {who: mean(times[first:first + 10]) for who, times in found.items()})
+    row(f"all {count:,}", {who: [it * count for it in mean(times)[:2]] + [mean(times)[2]] for who, times in found.items()})
+
+
+def mean(times):
+    """The mean seconds and processor seconds of calls, and the most memory."""
+    return [sum(it[0] for it in times) / len(times), sum(it[1] for it in times) / len(times), max(it[2] for it in times)]
+
+
+def rows_of(keys, first, count):
+    """The same rows as those of a table with so many keys, made at once."""
+    places = np.arange(first, first + count)
+    texts = pc.utf8_lpad(pc.cast(pa.array(places), pa.string()), 8, "0")
+    more = pa.DictionaryArray.from_arrays(pa.array(places % 8), ["x" * it for it in range(8)]).cast(pa.string())
+    columns = [pa.array(places), pc.binary_join_element_wise("row ", texts, more, "")]
+    if keys:
+        named = pa.array([f"key {key:02}" for key in range(keys)])
+        columns.insert(0, pa.DictionaryArray.from_arrays(pa.array(places % keys), named).cast(pa.string()))
+    return pa.table(columns, schema=KEYED if keys else BARE)
+
+
+def peaks(it):
+    """What appends and imports of one and of four million rows take, each once; fastparquet, which would take gigabytes, is left
+    out. The lines are those that pqds prints of the file."""
+    head("one and four million rows")
+    for keys in (0, 100):
+        tables = Tables(it, keys)
+        for millions in (1, 4):
+            file, lines, rows = it.file("import.parquet"), it.file("more.jsonl"), millions * MILLION
+            pq.write_table(rows_of(keys, 0, rows), file, compression="NONE", use_dictionary=False)
+            it.pqds("decode", file, out=lines)
+            found = {}
+            for who, work in tables.works(lines).items():
+                if who == "fastparquet":
+                    continue
+                tables.clear(who)
+                found[who] = work()
+                if tables.rows(who)[0] != rows:
+                    it.tell(f"side, append of {rows} rows by {who}: {tables.rows(who)}")
+            row(f"`append` of {rows:,} lines, {os.path.getsize(lines) / MILLION:.0f} MB, {tables.words}", found)
+            tables.clear("pqds")
+            row(f"`import` of the file, {os.path.getsize(file) / MILLION:.0f} MB", {"pqds": it.pqds("import", tables.folder("pqds"), file)})
+            os.remove(lines)
+        parts = [it.file(f"part{part}.parquet") for part in range(4)]
+        for part, name in enumerate(parts):
+            pq.write_table(rows_of(keys, part * MILLION, MILLION), name, compression="NONE", use_dictionary=False)
+        tables.clear("pqds")
+        row("`import` of four files of 1,000,000 rows, in one commit", {"pqds": it.pqds("import", tables.folder("pqds"), *parts)})
 
 
 # ---- questions ----
 
-def queried(it, tables, what, wanted, key="", text="", columns=("k", "n", "t")):
+def queried(it, tables, what, wanted, key="", text="", columns=()):
     """Rows of the dataset of a million rows that pqds made, all, those of one key of a hundred or the one with a text, which no
     statistics rule out, in all columns or some: as lines of JSON by the two programs, as a table in memory by the other two."""
     folder, ours, theirs = tables.folder("pqds"), it.file("ours.jsonl"), it.file("theirs.jsonl")
+    words, columns = list(columns), list(columns or tables.columns)
     column, value = ("k", key) if key else ("t", text)
     asked = ["--filter", json.dumps([[column, "==", value]])] if value else []
     where = f"WHERE {column} = '{value}'" if value else ""
-    named = f"read_parquet('{folder}/**/*.parquet', hive_partitioning=true, hive_types={{'k': 'VARCHAR'}})"
+    hive = ", hive_partitioning=true, hive_types={'k': 'VARCHAR'}" if tables.keyed else ""
+    named = f"read_parquet('{folder}/**/*.parquet'{hive})"
 
     def by_pyarrow():
         wanted_rows = ds.field(column) == value if value else None
@@ -392,11 +432,31 @@ def queried(it, tables, what, wanted, key="", text="", columns=("k", "n", "t")):
         found = fast.fastparquet.ParquetFile(folder).to_pandas(columns=list(columns), filters=filters, row_filter=bool(text))
         assert len(found) == wanted
 
-    works = {"pqds": lambda: it.pqds("query", folder, *([] if len(columns) == 3 else columns), *asked, out=ours),
+    works = {"pqds": lambda: it.pqds("query", folder, *words, *asked, out=ours),
              "DuckDB": lambda: it.duckdb(f"COPY (SELECT {', '.join(columns)} FROM {named} {where}) TO '{theirs}' (FORMAT json)"),
              "pyarrow": lambda: within(by_pyarrow), "fastparquet": lambda: within(by_fastparquet)}
     row(what, least(works))
     same_bytes(it, what, [ours, theirs])
+
+
+def counted(it, tables, text):
+    """A count of the one row of a million with a text, which no statistics rule out."""
+    folder, out = tables.folder("pqds"), it.file("count")
+
+    def by_pyarrow():
+        assert ds.parquet_dataset(f"{folder}/_metadata", partitioning=HIVE if tables.keyed else None).count_rows(filter=ds.field("t") == text, use_threads=False) == 1
+
+    def by_fastparquet():
+        assert len(fast.fastparquet.ParquetFile(folder).to_pandas(columns=["t"], filters=[[("t", "==", text)]], row_filter=True)) == 1
+
+    def after(who):
+        if who in ("pqds", "DuckDB") and open(out).read().strip() != "1":
+            it.tell(f"side, count by {who}: {open(out).read()}")
+
+    works = {"pqds": lambda: it.pqds("count", folder, "--filter", json.dumps([["t", "==", text]]), out=out),
+             "DuckDB": lambda: it.duckdb(f"SELECT count(*) FROM read_parquet('{folder}/**/*.parquet') WHERE t = '{text}'", out=out),
+             "pyarrow": lambda: within(by_pyarrow), "fastparquet": lambda: within(by_fastparquet)}
+    row(f"`count` by a text that no statistics rule out, of {MILLION:,} rows, {tables.words}", least(works, after=after))
 
 
 def pruned(it):
@@ -424,7 +484,24 @@ def pruned(it):
     def after(who):
         if who in ("pqds", "DuckDB") and int(open(out).read()) != high - low:
             it.tell(f"side, count by {who}: {open(out).read()}")
-    row(f"count of {high - low:,} of 10,000,000 rows in {len(glob.glob(f'{folder}/*.parquet'))} groups", least(works, after=after))
+    groups = len(glob.glob(f"{folder}/*.parquet"))
+    row(f"count of {high - low:,} of 10,000,000 rows in {groups} groups", least(works, after=after))
+    ours, theirs = it.file("ours.jsonl"), it.file("theirs.jsonl")
+
+    def table_by_pyarrow():
+        asked = (ds.field("n") >= low) & (ds.field("n") < high)
+        assert ds.parquet_dataset(f"{folder}/_metadata").to_table(filter=asked, use_threads=False).num_rows == high - low
+
+    def frame_by_fastparquet():
+        found = fast.fastparquet.ParquetFile(folder).to_pandas(filters=[[("n", ">=", low), ("n", "<", high)]], row_filter=True)
+        assert len(found) == high - low
+
+    chosen = f"SELECT * FROM read_parquet('{folder}/*.parquet') WHERE n >= {low} AND n < {high}"
+    works = {"pqds": lambda: it.pqds("query", folder, "--filter", f'[["n",">=",{low}],["n","<",{high}]]', out=ours),
+             "DuckDB": lambda: it.duckdb(f"COPY ({chosen}) TO '{theirs}' (FORMAT json)"),
+             "pyarrow": lambda: within(table_by_pyarrow), "fastparquet": lambda: within(frame_by_fastparquet)}
+    row(f"query of {high - low:,} of 10,000,000 rows in {groups} groups", least(works))
+    same_bytes(it, "a query by pruning", [ours, theirs])
     shutil.rmtree(folder)
 
 
@@ -562,17 +639,23 @@ def growth(path, room, tell):
         grown(it, groups)
 
 
-def run(path, room, tell):
-    it = Side(path, room, tell)
-    both_ways(it)
-    other_forms(it)
-    appends(it)
+def memory(path, room, tell):
+    peaks(Side(path, room, tell))
+
+
+def ones(path, room, tell):
+    one_by_one(Side(path, room, tell))
+
+
+def questions(it):
     head("questions, rewriting, start")
-    tables = Tables(it, True)
-    tables.clear("pqds")
-    it.pqds("append", tables.folder("pqds"), write_lines(it.file("rows.jsonl"), COLUMNS, range(MILLION)))
+    for keys in (0, 100):
+        tables = Tables(it, keys)
+        tables.clear("pqds")
+        it.pqds("append", tables.folder("pqds"), write_lines(it.file("rows.jsonl"), tables.columns, range(MILLION)))
+        queried(it, tables, f"all {MILLION:,} rows, {tables.words}", MILLION)
+    counted(it, tables, text_of(MILLION - 223))
     queried(it, tables, f"{MILLION // 100:,} rows of one key of 100", MILLION // 100, key="key 42")
-    queried(it, tables, f"all {MILLION:,} rows of 100 keys", MILLION)
     queried(it, tables, f"one column of {MILLION:,} rows of 100 keys", MILLION, columns=["n"])
     queried(it, tables, f"one row of {MILLION:,} by a text that no statistics rule out", 1, text=text_of(MILLION - 223))
     pruned(it)
@@ -580,3 +663,12 @@ def run(path, room, tell):
     removed(it, tables)
     rewritten(it)
     starts(it)
+
+
+def run(path, room, tell):
+    it = Side(path, room, tell)
+    both_ways(it)
+    other_forms(it)
+    appends(it)
+    questions(it)
+    one_by_one(it)
