@@ -1,11 +1,16 @@
-"""Runs a command of `rt`, and tells what the crates cost: asks each second which processes the command has, how much processor time
-each has used, and how much memory all of them have.
+"""Runs a command of `rt`, and reports what the crates cost.
 
     costs.py [--into FILE] COMMAND..
+    costs.py --table FILE
 
-The command's own output and status are passed on. The costs go to standard output, or to FILE: a line each for proofs, must-fail
-edits, tests, and the building and running of programs, with the processor minutes of each crate; then the sum, the minutes by the
+Each second it asks which processes the command has, how much processor time each has used, and how
+much memory all of them have. The command's own output and status are passed on. The costs go to
+standard output, or to FILE: a line each for proofs, must-fail edits, tests, and the building and
+running of programs, with the processor minutes of each crate; then the sum, the minutes by the
 clock, and the most memory at a time. Processes that end within a second are missed.
+
+With --table such lines, in a file that may have others too, are printed as the table of
+docs/GATE.md.
 """
 
 from __future__ import annotations
@@ -92,7 +97,7 @@ class Costs:
         self.seen[process] = crate[1] if crate else ITSELF, kind_of(folder, call), minutes
 
     def lines(self, order: list[str]) -> list[str]:
-        """A line for each kind of work, with the crates in this order that have any, and the sum."""
+        """A line for each kind of work, with its sum, and the crates in this order that have any."""
         costs: dict[str, dict[str, float]] = {it: collections.defaultdict(float) for it in KINDS}
         for name, kind, minutes in self.seen.values():
             costs[kind][name] += minutes
@@ -100,7 +105,8 @@ class Costs:
         for kind in KINDS:
             there = [it for it in [*order, ITSELF] if costs[kind][it] >= LEAST]
             parts = ", ".join(f"{it} {costs[kind][it]:.1f}" for it in there)
-            lines.append(f"{kind}: {sum(costs[kind].values()):.1f} processor minutes: {parts or 'none'}")
+            total = sum(costs[kind].values())
+            lines.append(f"{kind}: {total:.1f} processor minutes: {parts or 'none'}")
         return lines
 
     def total(self) -> float:
@@ -112,8 +118,29 @@ def crates_in_order() -> list[str]:
     return [it.split(":")[0].strip() for it in lines if it.strip() and not it.startswith("#")]
 
 
+def table(lines: list[str], order: list[str]) -> list[str]:
+    """The table of the crates and kinds of work in these lines."""
+    found: dict[str, dict[str, str]] = collections.defaultdict(dict)
+    sums = {}
+    for line in lines:
+        told = re.match(r"(\w+): ([\d.]+) processor minutes: (.*)", line)
+        if told and told[1] in KINDS:
+            sums[told[1]] = told[2]
+            for name, minutes in re.findall(r"(\w+|\(rt itself\)) ([\d.]+)", told[3]):
+                found[name][told[1]] = minutes
+    rows = [(f"`{it}`", found[it]) for it in order if it in found]
+    rows += [("`rt` itself", found[ITSELF])] if ITSELF in found else []
+    out = [f"| crate | {' | '.join(KINDS)} |", "|---" * (len(KINDS) + 1) + "|"]
+    for name, minutes in [*rows, ("all", sums)]:
+        out.append(f"| {name} | {' | '.join(minutes.get(it, '') for it in KINDS)} |")
+    return out
+
+
 def main(words: list[str]) -> int:
     into = None
+    if len(words) == 2 and words[0] == "--table" and os.path.isfile(words[1]):
+        print("\n".join(table(text_of(words[1]).splitlines(), crates_in_order())))
+        return 0
     if words[:1] == ["--into"]:
         into, words = words[1], words[2:]
     if not words or shutil.which(words[0]) is None:
@@ -128,9 +155,8 @@ def main(words: list[str]) -> int:
     lines = costs.lines(crates_in_order())
     minutes = (time.time() - started) / 60
     gigabytes = costs.most_bytes / 1e9
-    lines.append(
-        f"all: {costs.total():.1f} processor minutes in {minutes:.1f} by the clock, {gigabytes:.1f} GB at most"
-    )
+    sums = f"{costs.total():.1f} processor minutes in {minutes:.1f} by the clock"
+    lines.append(f"all: {sums}, {gigabytes:.1f} GB at most")
     text = "".join(f"{line}\n" for line in lines)
     if into is None:
         sys.stdout.write(text)

@@ -18,14 +18,14 @@ import subprocess
 import sys
 import tempfile
 from pathlib import Path
-from typing import Any
+from typing import Any, Optional
 
 from command_line import usage
 
 Field = dict[str, Any]
 
 TEXTS = ["", "a", "plain text", "Grüße", "\"quoted\" \\ back/slash", "tab\there", "line\nfeed", "€ 𝄞 \u0001", "0", "null", "x" * 60]
-NOTES = {
+NOTES: dict[str, list[Optional[str]]] = {
     "int32": [None, None, "date", "time_millis", "int_8", "uint_8", "int_16", "uint_16", "uint_32", "decimal"],
     "int64": [None, None, "time_micros", "timestamp_millis", "timestamp_micros", "uint_64", "decimal"],
     "bytes": [None, "utf8", "utf8", "enum", "json", "decimal"],
@@ -124,7 +124,7 @@ def random_single(rng: random.Random, field: Field, with_texts: bool) -> Any:
 def random_object(rng: random.Random, fields: list[Field], with_texts: bool) -> dict[str, Any]:
     """An object of the fields, in the order of their names or another, some of those that may be absent left out."""
     there = [each for each in fields if each["rep"] == "required" or rng.random() > 0.1]
-    there.sort(key=lambda each: each["name"].encode())
+    there.sort(key=lambda each: str(each["name"]).encode())
     if rng.random() < 0.3:
         rng.shuffle(there)
     return {each["name"]: random_value(rng, each, with_texts) for each in there}
@@ -154,7 +154,8 @@ def damaged_row(rng: random.Random, row: dict[str, Any]) -> dict[str, Any]:
     elif rng.random() < 0.5:
         del row[rng.choice(list(row))]
     else:
-        row[rng.choice(list(row))] = rng.choice([None, True, 1, 2**70, -1, 1.5, "text", "0g", [], [[]], {}, {"hex": "00"}, [None]])
+        values: list[Any] = [None, True, 1, 2**70, -1, 1.5, "text", "0g", [], [[]], {}, {"hex": "00"}, [None]]
+        row[rng.choice(list(row))] = rng.choice(values)
     return row
 
 

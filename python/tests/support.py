@@ -5,6 +5,7 @@ from __future__ import annotations
 import importlib.util
 import os
 import shlex
+import subprocess
 import sys
 import tempfile
 import types
@@ -17,11 +18,16 @@ sys.path.insert(0, str(TOP / "python"))
 
 
 def _program() -> str:
-    built = TOP / "crates/pqds/out/pqds"
-    return str(built if built.exists() else TOP / "pqds")
+    """The program of this tree; the script says so if there is none, and builds nothing."""
+    script = TOP / "bench/tools/program.sh"
+    ran = subprocess.run(["sh", str(script)], stdout=subprocess.PIPE, text=True, check=False)
+    if ran.returncode:
+        sys.exit(ran.returncode)
+    return ran.stdout.strip()
 
 
-os.environ.setdefault("PQDS", _program())
+if "PQDS" not in os.environ:
+    os.environ["PQDS"] = _program()
 
 ORDERS: List[Dict[str, Any]] = [
     {"name": "region", "rep": "required", "type": "bytes", "note": "utf8"},
