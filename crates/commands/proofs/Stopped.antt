@@ -111,6 +111,7 @@ module _ {D : Type 0} (state : D → DiskState) where
         survives = subst (λ (t : State). Survives images HoldsTable start finish s t) (sym r.4.1) (subst (λ (m : ℕ). Survives images HoldsTable start m s r.1) r.4.0 r.3);
         stands = run.stands;
         past = run.past;
+        doubt = λ is. run.doubt (0, omega arith, is);
       }
 
   -- the last answer of a run of one call

@@ -1,11 +1,12 @@
 -- How a run goes on by one call: the step of the loop in `run`, from the contract of the single call.
 use Rattle.std.proofs.Common.{◌≡◌, ◌≤◌, ◌↔◌, ℕ, ◌+◌, Bool, true, false, if◌then◌else◌, List, [], ◌∷◌, ◌++◌, length, filter, refl, sym, ◌∙◌, ap, subst, arith, inl, inr, ⊎_elim}
-use Rattle.std.proofs.lemmas.List.Elements.{filter-append}
+use Rattle.std.proofs.lemmas.List.Elements.{filter-append, Contains-push_cases}
 use Rattle.std.proofs.lemmas.List.{length-append}
+use Rattle.bits.specs.declared.refusal.Refusal.TheVariants.{InDoubt}
 use Rattle.vault.specs.Calls.{HasFailed}
 use Rattle.disk.specs.State.{State as DiskState}
 use Rattle.table.specs.State.{State}
-use Rattle.table.specs.Calls.{Call, Answer}
+use Rattle.table.specs.Calls.{Call, Answer, refused}
 use Rattle.table.specs.Refusing.{Happens, is_failure}
 use Rattle.table.specs.Stops.{Survives, RunsOn}
 use Rattle.table_state.specs.declared.standing.Core.{Core}
@@ -14,6 +15,7 @@ use Rattle.table_state.specs.Stands.{Stands}
 use Rattle.table_state.specs.Promises.{KeepsPast, Acts, ActsFrom, HasCause}
 use Rattle.store.specs.Running.{Runs, RunsFrom, HaveCauses, HasFailedTimes}
 use Rattle.table_commits.proofs.StateCarriedOver.{past_on}
+use Rattle.table_commits.proofs.NextRootsKept.{next_kept_since, next_kept_on}
 
 -- what a stop left stays what it left
 survives_later : (mid new : DiskState) → KeepsPast mid new → (start finish : ℕ) (s t : State) → finish ≤ mid.moment → Survives mid.images HoldsTable start finish s t → Survives new.images HoldsTable start finish s t
@@ -59,7 +61,7 @@ one_by_one answers answer = ap length (filter-append is_failure answers (answer 
 
 module _ {D : Type 0} (state : D → DiskState) where
   pub nothing_yet : (store : Core D) (s : State) → Stands state store s → RunsFrom state store store [] [] s
-  nothing_yet store s stands = record { after = s; runs = (refl, refl); stands = stands; past = record { later = omega arith; history = λ m c l left. left; keeps = λ m c l left. left } }
+  nothing_yet store s stands = record { after = s; runs = (refl, refl); stands = stands; past = record { later = omega arith; history = λ m c l left. left; keeps = λ m c l left. left }; doubt = λ there. let none = there.1 in absurd (omega (arith, none)) }
 
   pub one_more : (old mid new : Core D) (calls : List Call) (answers : List Answer) (s : State) (run : RunsFrom state old mid calls answers s) (call : Call) (answer : Answer)
       → ActsFrom state mid new call answer run.after → RunsFrom state old new (calls ++ call ∷ []) (answers ++ answer ∷ []) s
@@ -68,6 +70,10 @@ module _ {D : Type 0} (state : D → DiskState) where
     runs = goes_on (state mid.vault.disk) (state new.vault.disk) acts.past (state old.vault.disk).moment s calls answers (state mid.vault.disk).moment run.after (omega arith) run.runs call answer acts.after acts.happens acts.survives;
     stands = acts.stands;
     past = past_on (state old.vault.disk) (state mid.vault.disk) (state new.vault.disk) run.past acts.past;
+    doubt = λ there. ⊎_elim
+        (λ before. next_kept_on (state old.vault.disk) (state mid.vault.disk) (state new.vault.disk) acts.past (run.doubt before))
+        (λ is. next_kept_since (state old.vault.disk) (state mid.vault.disk) (state new.vault.disk) run.past.later (acts.doubt is))
+        (Contains-push_cases answers answer (refused InDoubt) there);
   }
 
   -- each failure that is told has one of its own

@@ -222,6 +222,7 @@ module _ {D : Type 0} (state : D → DiskState) (old : Core D) (s : State) (stan
         survives = survives_spared state old s stands.shows is_open (IsBelow s.table.keys s.next_group) (inl refl) (λ f below held. inr (part_below s.table.keys s.next_group f below)) disk r.written.wrote.spares (counted s mid.next_group) refl;
         stands = record { reached = reached_on s stands.reached call (done 0) (counted s mid.next_group) happens; shows = r.written.wrote.shows };
         past = past_of (state old.vault.disk) disk r.written.wrote.spares.moments;
+        doubt = λ is. absurd (cc);
       }
         where
           stay : (groups ≡ old_groups) × (length (rows (touched pass old_groups)) ≡ 0)

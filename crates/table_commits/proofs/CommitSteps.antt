@@ -75,6 +75,7 @@ module _ {D : Type 0} (state : D → DiskState) (store : Core D) (s : State) (t 
     survives = still.survives;
     past = still.past;
     cause = ⊎_elim (λ is. absurd (no_failure Device e no_device cause is)) (λ is. absurd (no_doubt e cause is));
+    doubt = λ is. absurd (no_doubt e cause is);
   }
 
   pub too_heavy : (A : Type 0) → (IsDescription root → A) ⊎ (fault_of (state_of store.snapshots) (committed root.groups job) ≡ Some Limit) → A
@@ -99,6 +100,7 @@ module _ {D : Type 0} (state : D → DiskState) (store : Core D) (s : State) (t 
         };
         past = past_on disk (state mid.vault.disk) (state new.vault.disk) one.past two.past;
         cause = tt;
+        doubt = tt;
       }
 
   pub shows_turned : {T : Type 0} (x : T) (mid : Core D) → Turns state store mid s t jobs (Ok x) → Shows state mid (turned s t jobs)

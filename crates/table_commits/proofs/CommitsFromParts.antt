@@ -17,9 +17,11 @@ use Rattle.table_state.specs.OnDisk.{HoldsTable}
 use Rattle.table_state.specs.Stands.{Stands}
 use Rattle.table_commits.specs.Writing.{counted}
 use Rattle.table_commits.specs.Committing.{turned, Turns}
-use Rattle.table_state.specs.Promises.{ActsFrom}
+use Rattle.table_state.specs.Promises.{WasNextKept, ActsFrom}
 use Rattle.table_commits.specs.Acting.{WroteTo, HasReason, AsksCommit, CommitsAct, RefusalsAct, AppendsAsk}
 use Rattle.table_commits.proofs.OneCallMore.{reached_on}
+use Rattle.table_commits.proofs.DoubtCloses.{no_doubt}
+use Rattle.table_commits.proofs.NextRootsKept.{next_kept_since}
 use Rattle.table_commits.proofs.StoredStays.{part_below}
 use Rattle.table_commits.proofs.StateCarriedOver.{past_of, past_on, survives_spared}
 
@@ -35,12 +37,14 @@ module _ {D : Type 0} (state : D → DiskState) where
       survives = before (counted s counter) refl;
       stands = record { reached = reached_on s stands.reached call (refused e) (counted s counter) happens; shows = wrote.shows };
       past = past_of (state old.vault.disk) (state mid.vault.disk) wrote.spares.moments;
+      doubt = no_doubt s call (refused e) (counted s counter) happens refl;
     }
 
     module _ (new : Core D) (call : Call) (n : ℕ) (t : Table) (asks : AsksCommit s call n t counter) where
       -- where the commit ended
-      ended : {T : Type 0} (result : Result T Refusal) (answer : Answer) (turns : Turns state mid new (counted s counter) t (jobs_after s call) result) → Happens s call answer turns.after_it → ActsFrom state old new call answer s
-      ended result answer turns happens = record {
+      ended : {T : Type 0} (result : Result T Refusal) (answer : Answer) (turns : Turns state mid new (counted s counter) t (jobs_after s call) result) → Happens s call answer turns.after_it
+          → (answer ≡ refused InDoubt → WasNextKept (state mid.vault.disk) (state new.vault.disk)) → ActsFrom state old new call answer s
+      ended result answer turns happens doubt = record {
         after = turns.after_it;
         happens = happens;
         survives = record {
@@ -55,6 +59,7 @@ module _ {D : Type 0} (state : D → DiskState) where
         };
         stands = record { reached = reached_on s stands.reached call answer turns.after_it happens; shows = turns.shows };
         past = past_on (state old.vault.disk) (state mid.vault.disk) (state new.vault.disk) (past_of (state old.vault.disk) (state mid.vault.disk) wrote.spares.moments) turns.past;
+        doubt = λ is. next_kept_since (state old.vault.disk) (state mid.vault.disk) (state new.vault.disk) wrote.spares.moments.later (doubt is);
       }
 
       stays : Stays s call (counted s counter)
@@ -70,11 +75,13 @@ module _ {D : Type 0} (state : D → DiskState) where
             answers = refl;
             becomes = refl;
           })))
+          (λ is. absurd (cc))
       acts T (Err InDoubt) reason turns = ended {T = T} (Err InDoubt) (refused InDoubt) turns (subst (λ (a : State). Happens s call (refused InDoubt) a) (sym turns.is)
           (in_doubt refl asks.unrefused (record { n = n; table = t; counter = counter; leads = asks.leads; other = asks.other; becomes = refl })))
-      acts T (Err Limit) reason turns = ended {T = T} (Err Limit) (refused Limit) turns (subst (λ (a : State). Happens s call (refused Limit) a) (sym turns.is) (over refl reason.0 reason.1 stays))
-      acts T (Err Device) reason turns = ended {T = T} (Err Device) (refused Device) turns (subst (λ (a : State). Happens s call (refused Device) a) (sym turns.is) (failed refl asks.on asks.disk stays))
-      acts T (Err Memory) reason turns = ended {T = T} (Err Memory) (refused Memory) turns (subst (λ (a : State). Happens s call (refused Memory) a) (sym turns.is) (no_memory refl asks.on asks.memory stays))
+          (λ is. turns.doubt refl)
+      acts T (Err Limit) reason turns = ended {T = T} (Err Limit) (refused Limit) turns (subst (λ (a : State). Happens s call (refused Limit) a) (sym turns.is) (over refl reason.0 reason.1 stays)) (λ is. absurd (cc))
+      acts T (Err Device) reason turns = ended {T = T} (Err Device) (refused Device) turns (subst (λ (a : State). Happens s call (refused Device) a) (sym turns.is) (failed refl asks.on asks.disk stays)) (λ is. absurd (cc))
+      acts T (Err Memory) reason turns = ended {T = T} (Err Memory) (refused Memory) turns (subst (λ (a : State). Happens s call (refused Memory) a) (sym turns.is) (no_memory refl asks.on asks.memory stays)) (λ is. absurd (cc))
       acts T (Err e) reason turns = absurd reason
 
   pub commits_act : CommitsAct state

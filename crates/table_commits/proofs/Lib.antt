@@ -12,6 +12,8 @@ mod SwappedRoots
 pub mod AfterCleanings
 mod CommitSteps
 pub mod OneCallMore
+pub mod DoubtCloses
+pub mod NextRootsKept
 pub mod UnchangedRefusals
 pub mod CommitsFromParts
 pub mod HeavyRoots

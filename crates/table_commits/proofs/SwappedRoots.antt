@@ -9,7 +9,7 @@ use Rattle.schema.specs.Shape.{Fields}
 use Rattle.schema.specs.Keys.{KeyColumn, AreDistinct}
 use Rattle.disk.specs.State.{Image, State as DiskState, content, may_leave}
 use Rattle.vault.specs.declared.vault.Vault.{Vault}
-use Rattle.vault.specs.Views.{LeavesAfter, AllBut, Swaps, IsKept, IsRooted, root_path, next_path}
+use Rattle.vault.specs.Views.{LeavesAfter, AllBut, Swaps, IsKept, WasKept, IsRooted, root_path, next_path}
 use Rattle.vault.specs.Calls.{HasFailed, SwapsRoot}
 use Rattle.vault.proofs.Moments.{widens}
 use Rattle.partition.specs.Folders.{part_path_of}
@@ -23,7 +23,7 @@ use Rattle.table.specs.Stops.{MayHold, Survives}
 use Rattle.table_state.specs.declared.standing.Core.{Core}
 use Rattle.table_commits.specs.declared.turn.Turn.{Turn}
 use Rattle.table_state.specs.declared.jobs.OpenJob.{OpenJob}
-use Rattle.std.specs.Prelude.{Vec, reverse}
+use Rattle.std.specs.Prelude.{Vec, reverse, IfErr}
 use Rattle.std.specs.declared.alloc.Global.{Global}
 use Rattle.lists.proofs.Booleans.{and_first as both}
 use Rattle.table_state.specs.Paths.{IsPartBelow, IsBelow}
@@ -104,6 +104,7 @@ module _ {D : Type 0} (state : D → DiskState) (store : Core D) (s : State) (t 
           survives = survives_spared state store s shows is_open (IsBelow keys s.next_group) (inl refl) (λ f low held. inr (part_below keys s.next_group f low)) new spares s refl;
           past = past_of disk new left;
           cause = ⊎_elim (λ is. cause_at _ Device e (λ h. h) (failed_by e result_is) is) (λ is. absurd (other is));
+          doubt = λ is. absurd (other is);
         }
       where
         is_same : (f : Refusal) → f ≢ InDoubt → TurnsInto (failed T f) s t jobs s
@@ -242,12 +243,17 @@ module _ {D : Type 0} (state : D → DiskState) (store : Core D) (s : State) (t 
         survives = survives_to next (inl refl) (λ c may. (t, holds_like new s.next_group (root_of turn.manifest) turn.root.items t new_ready Any (all_any (root_of turn.manifest).groups) c c may (kept c may) (λ f low held. refl) (λ path place. room_too path place c may), inl refl));
         past = past_of disk new swaps.moments;
         cause = tt;
+        doubt = tt;
       }
 
     each_root : (c : Image) → may_leave new c → (content c root_path ≡ Some here.root) ⊎ (content c root_path ≡ Some turn.root.items)
     each_root c may =
         let was = swaps.moments.each new.moment c swaps.moments.later (omega arith) may in
         ⊎_elim (λ same. inl (same ∙ here.root_kept was.0 was.1)) (λ is. inr is) was.2.either
+
+    -- in doubt only after this next root was whole
+    next_kept : (e : Refusal) → result ≡ failed T e → e ≡ InDoubt → WasKept next_path turn.root.items disk new
+    next_kept e is = subst (λ (r : Result T Refusal). IfErr r (λ f. f ≡ InDoubt → WasKept next_path turn.root.items disk new)) is swaps.in_doubt
 
     pub turn_doubted : (e : Refusal) → result ≡ failed T e → e ≡ InDoubt → Turns state store (record store { vault = vault; closed = true }) s t jobs (failed T InDoubt)
     turn_doubted e result_is doubt =
@@ -275,4 +281,5 @@ module _ {D : Type 0} (state : D → DiskState) (store : Core D) (s : State) (t 
           survives = survives_to (doubted s t) (inr refl) (λ c may. let h = sound.tables c may in (h.table, h.held, h.allowed));
           past = past_of disk new swaps.moments;
           cause = λ is. cause_at _ InDoubt e (λ h. h) (failed_by e result_is) doubt;
+          doubt = λ is. (turn.root.items, next_kept e result_is doubt);
         }

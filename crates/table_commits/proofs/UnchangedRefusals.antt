@@ -13,6 +13,7 @@ use Rattle.table_state.specs.OnDisk.{HoldsTable}
 use Rattle.table_state.specs.Stands.{Shows, Stands}
 use Rattle.table_state.specs.Promises.{KeepsPast, ActsFrom, Acts}
 use Rattle.table_commits.proofs.OneCallMore.{reached_on}
+use Rattle.table_commits.proofs.DoubtCloses.{no_doubt}
 
 module _ {D : Type 0} (state : D → DiskState) (store : Core D) where
   abbrev disk : DiskState
@@ -32,7 +33,7 @@ module _ {D : Type 0} (state : D → DiskState) (store : Core D) where
   same_past = record { later = omega arith; history = λ m c l at. at; keeps = λ m c l at. at }
 
   pub changes_nothing : (call : Call) (answer : Answer) (s : State) → Stands state store s → Happens s call answer s → ActsFrom state store store call answer s
-  changes_nothing call answer s stands happens = record { after = s; happens = happens; survives = survived s stands.shows; stands = stands; past = same_past }
+  changes_nothing call answer s stands happens = record { after = s; happens = happens; survives = survived s stands.shows; stands = stands; past = same_past; doubt = no_doubt s call answer s happens refl }
 
   pub acts_shut : (call : Call) → is_other call ≡ true → store.closed ≡ true → Acts state store store call (refused Closed)
   acts_shut call o e honest s stands =
@@ -82,4 +83,5 @@ module _ {D : Type 0} (state : D → DiskState) (store : Core D) where
           };
         };
         past = same_past;
+        doubt = λ is. absurd (cc);
       }

@@ -17,7 +17,7 @@ use Rattle.table_commits.specs.declared.turn.Turn.{Turn}
 use Rattle.table_state.specs.OnDisk.{HoldsTable}
 use Rattle.table_state.specs.Lookups.{jobs_left}
 use Rattle.table_state.specs.Stands.{AreStored, IsReady, ShowsJob, Shows}
-use Rattle.table_state.specs.Promises.{KeepsPast}
+use Rattle.table_state.specs.Promises.{KeepsPast, WasNextKept}
 
 -- the state after a commit to this table, which leaves these jobs
 abbrev pub turned : State → Table → List (ℕ × Job) → State
@@ -81,3 +81,5 @@ pub record Turns {D T : Type 0} (state : D → DiskState) (old new : Core D) (s 
   pub survives : Survives (state new.vault.disk).images HoldsTable (state old.vault.disk).moment (state new.vault.disk).moment s after_it
   pub past : KeepsPast (state old.vault.disk) (state new.vault.disk)
   pub cause : IfErr result (λ e. (e ≡ Device) ⊎ (e ≡ InDoubt) → HasFailed (state old.vault.disk) (state new.vault.disk))
+  -- in doubt only after a next root was whole
+  pub doubt : IfErr result (λ e. e ≡ InDoubt → WasNextKept (state old.vault.disk) (state new.vault.disk))

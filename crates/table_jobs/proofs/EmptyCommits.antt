@@ -180,4 +180,4 @@ module _ {D : Type 0} (state : D → DiskState) (store : Core D) (s : State) (st
           answers = refl;
           becomes = ap (λ (h : ℕ → Bool). record s { jobs = ended_at n s.jobs; had = h }) (sym (had_same s stands.reached));
         } in
-        ends state store s stands is_open (commit n) (done 0) next (unfaulted, is) snapshots jobs store.cursors new (clears next (job_ended state store s stands is_open n snapshots steps jobs left) is_open)
+        ends state store s stands is_open (commit n) (done 0) next (unfaulted, is) refl snapshots jobs store.cursors new (clears next (job_ended state store s stands is_open n snapshots steps jobs left) is_open)

@@ -80,7 +80,7 @@ module _ {D : Type 0} (state : D → DiskState) (old : Core D) (s : State) (stan
     stale_done gone snapshots steps jobs left new clears =
         let next = record s { jobs = ended_at n s.jobs } in
         let happens : Happens s (commit n) (refused Stale) next = refused_stale gone refl refl in
-        ends state old s stands is_open (commit n) (refused Stale) next happens snapshots jobs old.cursors new (clears next (job_ended state old s stands is_open n snapshots steps jobs left) is_open)
+        ends state old s stands is_open (commit n) (refused Stale) next happens refl snapshots jobs old.cursors new (clears next (job_ended state old s stands is_open n snapshots steps jobs left) is_open)
 
     -- ---- all are there
 

@@ -304,4 +304,5 @@ module _ {D : Type 0} (state : D → DiskState) (old : Core D) (s : State) (stan
             shows = job_changed state mid (counted s count) wrote.shows is_open y (appending (staged ++ given)) shown jobs (are ∙ put_changes n (Append b) mid.jobs.items apart_jobs) apart_then;
           };
           past = past_of disk now wrote.spares.moments;
+          doubt = λ is. absurd (cc);
         }

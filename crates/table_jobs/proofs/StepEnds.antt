@@ -282,6 +282,7 @@ module _ {D : Type 0} (state : D → DiskState) (store : Core D) (s : State) (st
                       (stands_in t.unread (same_shown now s.table.keys s.table.schema s.next_group s.options.group_rows s.had pins_then t.r t.runs t.unread shows_then q one two));
                 };
                 past = still.past;
+                doubt = λ is. absurd (cc);
               }
 
           -- the rows are kept
@@ -322,6 +323,7 @@ module _ {D : Type 0} (state : D → DiskState) (store : Core D) (s : State) (st
                   survives = record { later = still.survives.later; each = still.survives.each; ended = still.survives.ended };
                   stands = record { reached = reached_on s stands.reached call (more b) after happens; shows = stands_in left shown };
                   past = still.past;
+                  doubt = λ is. absurd (cc);
                 }
 
         -- what the code has kept

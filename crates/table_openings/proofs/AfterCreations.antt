@@ -7,7 +7,7 @@ use Rattle.bits.specs.Refusals.{HasCause, RefusedOnly}
 use Rattle.schema.specs.Shape.{Fields}
 use Rattle.schema.specs.Keys.{KeyColumn}
 use Rattle.disk.specs.State.{Image, State as DiskState, content, may_leave}
-use Rattle.vault.specs.Views.{LeavesAfter, AllBut, root_path, next_path}
+use Rattle.vault.specs.Views.{LeavesAfter, AllBut, WasKept, root_path, next_path}
 use Rattle.vault.specs.Ways.{IsClearIn}
 use Rattle.vault.specs.Calls.{HasFailed, LeavesAll, SwapsRoot}
 use Rattle.vault.proofs.Moments.{le_or}
@@ -22,11 +22,13 @@ use Rattle.table.specs.Table.{Table, empty_table}
 use Rattle.table_openings.specs.declared.creating.First.{First}
 use Rattle.table_state.specs.Paths.{PathsAreApart}
 use Rattle.table_state.specs.OnDisk.{HoldsTable}
+use Rattle.table_state.specs.Promises.{WasNextKept}
 use Rattle.table_state.specs.Spares.{IsPlace, HasRoom}
 use Rattle.table_openings.specs.Opening.{HasNoRoot, LeavesNoneOr}
 use Rattle.table_openings.specs.Creating.{first_root, IsFirst, IsNotNew, IsNotPut, IsNotFirst}
 use Rattle.table_commits.proofs.StateCarriedOver.{past_of, past_on}
 use Rattle.table_commits.proofs.SparedDisks.{off_place}
+use Rattle.table_commits.proofs.NextRootsKept.{next_kept_since}
 
 pub is_first : (schema : Fields) (keys : List KeyColumn) (first : First) → root_of first.manifest ≡ first_root schema keys → IsDescription (root_of first.manifest)
     → (IsDescription (root_of first.manifest) → RootMeans first.root.items (root_of first.manifest)) → state_of first.versions ≡ start (root_of first.manifest).groups → IsFirst schema keys first
@@ -78,6 +80,12 @@ module _ (schema : Fields) (keys : List KeyColumn) (first : First) (is : IsFirst
     swap_cause e at room why =
         let cause = subst (λ (r : Result (Unit {0}) Refusal). RefusedOnly (λ _. HasFailed old new) r) at (swaps.cause (record { root = room root_path (inl refl); next = room next_path (inr (inl refl)) })) in
         ⊎_elim (λ is. subst (λ (f : Refusal). HasCause (λ _. HasFailed old new) f) is cause) (λ is. subst (λ (f : Refusal). HasCause (λ _. HasFailed old new) f) is cause) why
+
+    -- in doubt only after the first root was whole beside its place
+    pub swap_doubted : (e : Refusal) → result ≡ Err e → e ≡ InDoubt → WasNextKept old new
+    swap_doubted e at doubt =
+        let kept = subst (λ (r : Result (Unit {0}) Refusal). IfErr r (λ f. f ≡ InDoubt → WasKept next_path first.root.items old new)) at swaps.in_doubt in
+        (first.root.items, kept doubt)
 
 -- what a swap may be refused for
 pub swap_refusal : (t : Table) (e : Refusal) → HasCause (λ f. (f ≡ Device) ⊎ (f ≡ InDoubt)) e → IsNotPut t e
@@ -136,6 +144,10 @@ module _ (old mid : DiskState) (left : LeavesAll old mid) where
     pub cause_on : (r : Result First Refusal) → mid.failures ≡ old.failures → IfErr r (λ e. (e ≡ Device) ⊎ (e ≡ InDoubt) → HasFailed mid new) → IfErr r (λ e. (e ≡ Device) ⊎ (e ≡ InDoubt) → HasFailed old new)
     cause_on (Ok x) told h = tt
     cause_on (Err e) told h = λ why. ⊎_elim (λ l. inl (omega (arith, l, told))) (λ l. inr (omega (arith, l, told))) (h why)
+
+    pub doubt_on : (r : Result First Refusal) → IfErr r (λ e. e ≡ InDoubt → WasNextKept mid new) → IfErr r (λ e. e ≡ InDoubt → WasNextKept old new)
+    doubt_on (Ok x) h = tt
+    doubt_on (Err e) h = λ is. next_kept_since old mid new left.moments.later (h is)
 
 -- why a new table is not put
 pub not_new : (o : WriteOptions) (t : Table) (disk : DiskState) (e : Refusal) → IsNotNew o disk e → IsNotFirst o t disk e

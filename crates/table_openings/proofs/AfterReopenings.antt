@@ -111,6 +111,7 @@ module _ {D : Type 0} (state : D → DiskState) (old : Core D) (s : State) (stan
     };
     stands = record { reached = reached_on s stands.reached reopen (refused e) shut (happens_shut e why); shows = closed_now };
     past = past_of before disk moments;
+    doubt = λ is. ⊎_elim (λ a. absurd (cc)) (λ b. absurd (cc)) why;
   }
 
   -- ---- it is done: nothing is open, and the store has one of the two tables
@@ -154,6 +155,7 @@ module _ {D : Type 0} (state : D → DiskState) (old : Core D) (s : State) (stan
       };
       stands = stands_now;
       past = past_of before disk moments;
+      doubt = λ is. absurd (cc);
     })
 
   -- ---- either

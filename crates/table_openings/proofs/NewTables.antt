@@ -23,6 +23,7 @@ use Rattle.table.specs.State.{opened}
 use Rattle.table_state.specs.declared.standing.Core.{Core}
 use Rattle.table_openings.specs.declared.creating.First.{First}
 use Rattle.table_state.specs.Paths.{PathsAreApart}
+use Rattle.table_state.specs.Promises.{WasNextKept}
 use Rattle.table_state.specs.Spares.{HasRoom}
 use Rattle.table_state.specs.Stands.{IsReady, Stands}
 use Rattle.table_state.specs.Starting.{IsStarted}
@@ -54,6 +55,9 @@ module _ {D : Type 0} (state : D → DiskState) (a b c d : D) (from : a ≡ b) (
 
   pub failed_moved : HasFailed (state a) (state c) → HasFailed (state b) (state d)
   failed_moved failed = subst (λ (x : D). HasFailed (state x) (state d)) from (subst (λ (x : D). HasFailed (state a) (state x)) to failed)
+
+  pub doubt_moved : WasNextKept (state a) (state c) → WasNextKept (state b) (state d)
+  doubt_moved kept = subst (λ (x : D). WasNextKept (state x) (state d)) from (subst (λ (x : D). WasNextKept (state a) (state x)) to kept)
 
   pub not_created_at : (schema : Fields) (names : List (List ℕ)) (o : WriteOptions) (keys : List KeyColumn) → AreNamedKeys schema names keys → (e : Refusal) → IsNotFirst o (empty_table schema keys) (state a) e → IsNotCreated schema names o (state b) e
   not_created_at schema names o keys named e h = subst (λ (x : D). IsNotCreated schema names o (state x) e) from (not_created schema names o (state a) keys named e h)

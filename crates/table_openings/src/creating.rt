@@ -9,6 +9,7 @@ ghost use Rattle.vault.specs.Calls.{HasFailed, LeavesAll};
 ghost use Rattle.footer.specs.Writing.{IsOutOfRange};
 ghost use Rattle.table.specs.Table.{empty_table};
 ghost use Rattle.table.specs.Weights.{IsRootTooMuch};
+ghost use Rattle.table_state.specs.Promises.{WasNextKept};
 ghost use Rattle.table_state.specs.Spares.{HasRoom};
 ghost use Rattle.table_openings.specs.Opening.{HasNoRoot, LeavesNoneOr};
 ghost use Rattle.table_openings.specs.Creating.{IsFirst, IsFirstOn, IsNotNew, IsNotPut, IsNotFirst};
@@ -56,6 +57,7 @@ pub(crate) fn put_new<D: Disk>(
     ensures unchanged { (D.state vault.old.disk).honest → content (D.state vault.old.disk).seen root_path ≢ None → LeavesAll (D.state vault.old.disk) (D.state vault.new.disk) }
     ensures cause { (D.state vault.old.disk).honest → HasRoom (key_columns_view keys.items) (D.state vault.old.disk)
         → IfErr result (λ e. (e ≡ Refusal.Device) ⊎ (e ≡ Refusal.InDoubt) → HasFailed (D.state vault.old.disk) (D.state vault.new.disk)) }
+    ensures in_doubt { (D.state vault.old.disk).honest → IfErr result (λ e. e ≡ Refusal.InDoubt → WasNextKept (D.state vault.old.disk) (D.state vault.new.disk)) }
     ensures counts { (D.state vault.old.disk).failures ≤ (D.state vault.new.disk).failures }
     ensures honest { (D.state vault.old.disk).honest ↔ (D.state vault.new.disk).honest }
 {
@@ -104,6 +106,7 @@ fn put_first<D: Disk>(
     ensures which { IfErr result (IsNotPut (empty_table schema (key_columns_view keys.items))) }
     ensures cause { (D.state vault.old.disk).honest → HasRoom (key_columns_view keys.items) (D.state vault.old.disk)
         → IfErr result (λ e. (e ≡ Refusal.Device) ⊎ (e ≡ Refusal.InDoubt) → HasFailed (D.state vault.old.disk) (D.state vault.new.disk)) }
+    ensures in_doubt { (D.state vault.old.disk).honest → IfErr result (λ e. e ≡ Refusal.InDoubt → WasNextKept (D.state vault.old.disk) (D.state vault.new.disk)) }
     ensures counts { (D.state vault.old.disk).failures ≤ (D.state vault.new.disk).failures }
     ensures honest { (D.state vault.old.disk).honest ↔ (D.state vault.new.disk).honest }
 {

@@ -11,6 +11,7 @@ ghost use Rattle.recovery.specs.Sound.{IsSound};
 ghost use Rattle.recovery.specs.Opening.{Cleans, IsClean};
 ghost use Rattle.table.specs.Table.{empty_table};
 ghost use Rattle.table.specs.State.{opened};
+ghost use Rattle.table_state.specs.Promises.{WasNextKept};
 ghost use Rattle.table_state.specs.Spares.{HasRoom};
 ghost use Rattle.table_state.specs.Stands.{Stands};
 ghost use Rattle.table_openings.specs.Opening.{disk_of, AreNamedKeys, HasNoRoot, HasRoomForAll, LeavesNoneOr, LeavesTables, IsNotCreated, IsCreatable, IsOpened, IsNotOpened, LeavesAllOrCleans};
@@ -54,6 +55,8 @@ pub fn create<D: Disk>(
     ensures unchanged { (D.state disk).honest → content (D.state disk).seen root_path ≢ None → LeavesAll (D.state disk) (D.state (disk_of result)) }
     ensures cause { (D.state disk).honest → (keys : List KeyColumn) → AreNamedKeys schema (map string_bytes names.now) keys → HasRoom keys (D.state disk)
         → IfErr result (λ e. (e.1 ≡ Refusal.Device) ⊎ (e.1 ≡ Refusal.InDoubt) → HasFailed (D.state disk) (D.state e.0)) }
+    // InDoubt comes only after the first root was whole beside its place.
+    ensures in_doubt { (D.state disk).honest → IfErr result (λ e. e.1 ≡ Refusal.InDoubt → WasNextKept (D.state disk) (D.state e.0)) }
     ensures counts { (D.state disk).failures ≤ (D.state (disk_of result)).failures }
     ensures honest { (D.state disk).honest ↔ (D.state (disk_of result)).honest }
 {

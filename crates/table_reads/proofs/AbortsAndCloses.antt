@@ -67,7 +67,7 @@ module _ {D : Type 0} (state : D → DiskState) (store : Core D) (s : State) (st
     aborted snapshots steps jobs left new clears =
         let next = record s { jobs = ended_at n s.jobs } in
         let happens : Happens s (abort n) accepted next = (job_unfaulted, (refl, refl)) in
-        ends state store s stands is_open (abort n) accepted next happens snapshots jobs store.cursors new (clears next (job_ended state store s stands is_open n snapshots steps jobs left) is_open)
+        ends state store s stands is_open (abort n) accepted next happens refl snapshots jobs store.cursors new (clears next (job_ended state store s stands is_open n snapshots steps jobs left) is_open)
 
   -- ---- a cursor
 
@@ -99,4 +99,4 @@ module _ {D : Type 0} (state : D → DiskState) (store : Core D) (s : State) (st
     is_closed snapshots steps cursors left new clears =
         let next = record s { cursors = ended_at n s.cursors } in
         let happens : Happens s (close n) accepted next = (cursor_unfaulted, (refl, refl)) in
-        ends state store s stands is_open (close n) accepted next happens snapshots store.jobs cursors new (clears next (cursor_ended state store s stands is_open n snapshots steps cursors left) is_open)
+        ends state store s stands is_open (close n) accepted next happens refl snapshots store.jobs cursors new (clears next (cursor_ended state store s stands is_open n snapshots steps cursors left) is_open)

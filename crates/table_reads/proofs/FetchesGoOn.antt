@@ -43,6 +43,7 @@ use Rattle.table_reads.proofs.FetchesWithoutCursor.{cursor_found, changed_none, 
 use Rattle.table_commits.proofs.PartFilesWritten.{same_use}
 use Rattle.table_commits.proofs.OtherJobsAndCursors.{IsOpenSo, open_here, shows_open}
 use Rattle.table_commits.proofs.OneCallMore.{reached_on}
+use Rattle.table_commits.proofs.DoubtCloses.{no_doubt}
 
 -- what only reads spares all
 spares_all : (keys : List KeyColumn) (old new : DiskState) → LeavesAll old new → Spares keys (λ q. Unit {0}) old new
@@ -61,7 +62,7 @@ module _ {D : Type 0} (state : D → DiskState) (store : Core D) (s : State) (st
 
   -- so it does after a refusal
   pub stays_put : (call : Call) (answer : Answer) → Happens s call answer s → ActsFrom state store read_store call answer s
-  stays_put call answer happens = record { after = s; happens = happens; survives = still_so.survives; stands = record { reached = reached_on s stands.reached call answer s happens; shows = still_so.shows }; past = still_so.past }
+  stays_put call answer happens = record { after = s; happens = happens; survives = still_so.survives; stands = record { reached = reached_on s stands.reached call answer s happens; shows = still_so.shows }; past = still_so.past; doubt = no_doubt s call answer s happens refl }
 
 -- ---- what it comes to
 
@@ -276,6 +277,7 @@ module _ {D : Type 0} (state : D → DiskState) (store : Core D) (n : ℕ) (is_o
             stands.shows.next_job stands.shows.next_cursor open_then;
       };
       past = still_here.past;
+      doubt = no_doubt s (fetch n) answer after happens_so refl;
     }
 
 -- ---- the cursor in the list, as it is found

@@ -1,5 +1,5 @@
 -- Something that is open ends: where the store stands then, and after what it needed was removed.
-use Rattle.std.proofs.Common.{◌≡◌, ℕ, Bool, true, false, not, ◌||◌, ◌==◌, if◌then◌else◌, List, [], ◌∷◌, option_map, Option, Some, None, refl, sym, ap, subst, arith, inl, inr, ⊎_elim}
+use Rattle.std.proofs.Common.{◌≡◌, ℕ, Bool, true, false, not, ◌||◌, ◌==◌, if◌then◌else◌, List, [], ◌∷◌, option_map, Option, Some, None, refl, sym, ◌∙◌, ap, subst, arith, inl, inr, ⊎_elim}
 use Rattle.std.specs.Prelude.{Vec, is_some, IsTrue}
 use Rattle.std.specs.List.{AllZip}
 use Rattle.std.specs.declared.alloc.Global.{Global}
@@ -25,6 +25,7 @@ use Rattle.table_reads.proofs.AfterEvents.{jobs_left_shown, cursors_left_shown}
 use Rattle.table_commits.proofs.NumbersOfJobs.{parted_left}
 use Rattle.table_commits.proofs.OtherJobsAndCursors.{IsOpenSo, shows_open, shows_moved}
 use Rattle.table_commits.proofs.OneCallMore.{reached_on}
+use Rattle.table_commits.proofs.DoubtCloses.{no_doubt}
 use Rattle.table_commits.proofs.UnchangedRefusals.{survived, same_past}
 
 -- ---- look-ups
@@ -69,6 +70,7 @@ module _ {D : Type 0} (state : D → DiskState) (store : Core D) (s : State) (st
     survives = survived state store s stands.shows;
     stands = record { reached = stands.reached; shows = shows_moved state store s stands.shows is_open snapshots jobs cursors d e f };
     past = same_past state store;
+    doubt = λ is. absurd (cc);
   }
 
   -- ---- a call that opens or ends something
@@ -90,12 +92,13 @@ module _ {D : Type 0} (state : D → DiskState) (store : Core D) (s : State) (st
       };
       stands = record { reached = reached_on s stands.reached call answer next happens; shows = shows };
       past = same_past state store;
+      doubt = no_doubt s call answer next happens (sym shows.closed ∙ stands.shows.closed);
     }
 
     -- and then removes what nothing needs
-    pub ends : (snapshots : Snapshots) (jobs : Vec OpenJob Global) (cursors : Vec OpenCursor Global) (new : Core D)
+    pub ends : next.closed ≡ s.closed → (snapshots : Snapshots) (jobs : Vec OpenJob Global) (cursors : Vec OpenCursor Global) (new : Core D)
         → Clears state (record store { snapshots = snapshots; jobs = jobs; cursors = cursors }) new next → ActsFrom state store new call answer s
-    ends snapshots jobs cursors new clears = record {
+    ends same snapshots jobs cursors new clears = record {
       after = next;
       happens = happens;
       survives = record {
@@ -105,6 +108,7 @@ module _ {D : Type 0} (state : D → DiskState) (store : Core D) (s : State) (st
       };
       stands = record { reached = reached_on s stands.reached call answer next happens; shows = clears.shows };
       past = clears.past;
+      doubt = no_doubt s call answer next happens same;
     }
 
   -- ---- the end of a job

@@ -1,11 +1,12 @@
 -- The words of the calls' contracts.
-use Rattle.std.specs.Prelude.{◌≡◌, ◌≤◌, ℕ, true, Result, Err}
+use Rattle.std.specs.Prelude.{◌≡◌, ◌≤◌, ℕ, true, List, Result, Err}
 use Rattle.bits.specs.declared.refusal.Refusal.{Refusal}
 use Rattle.bits.specs.declared.refusal.Refusal.TheVariants.{Closed, InDoubt}
 use Rattle.disk.specs.State.{Image, State as DiskState}
+use Rattle.vault.specs.Views.{WasKept, next_path}
 use Rattle.vault.specs.Calls.{HasFailed}
 use Rattle.table.specs.State.{State}
-use Rattle.table.specs.Calls.{Call, Answer}
+use Rattle.table.specs.Calls.{Call, Answer, refused}
 use Rattle.table.specs.Refusing.{Happens, is_failure}
 use Rattle.table.specs.Stops.{Survives}
 use Rattle.table_state.specs.declared.standing.Core.{Core}
@@ -18,6 +19,10 @@ pub record KeepsPast (old new : DiskState) : Type 0 where
   pub history : (m : ℕ) (image : Image) → m ≤ old.moment → new.images m image → old.images m image
   pub keeps : (m : ℕ) (image : Image) → m ≤ old.moment → old.images m image → new.images m image
 
+-- at a moment from old to new a next root, whole, was in whatever a stop could leave: all was done but its rename
+abbrev pub WasNextKept : DiskState → DiskState → Type 0
+WasNextKept old new = (root : List ℕ) × WasKept next_path root old new
+
 -- From the one state the call gives this answer and leads to a state that the store then stands in. A stop at any
 -- moment of it leaves a table of the one or of the other.
 pub record ActsFrom {D : Type 0} (state : D → DiskState) (old new : Core D) (call : Call) (answer : Answer) (s : State) : Type 0 where
@@ -26,6 +31,8 @@ pub record ActsFrom {D : Type 0} (state : D → DiskState) (old new : Core D) (c
   pub survives : Survives (state new.vault.disk).images HoldsTable (state old.vault.disk).moment (state new.vault.disk).moment s after
   pub stands : Stands state new after
   pub past : KeepsPast (state old.vault.disk) (state new.vault.disk)
+  -- in doubt only after a next root was whole
+  pub doubt : answer ≡ refused InDoubt → WasNextKept (state old.vault.disk) (state new.vault.disk)
 
 -- on an honest disk, from each state that the store stands in
 abbrev pub Acts : {D : Type 0} → (D → DiskState) → Core D → Core D → Call → Answer → Type 0

@@ -2,7 +2,7 @@ use Rattle.std.proofs.Common.{List, ℕ, Ok, Err, refl, subst}
 use Rattle.schema.specs.Keys.{key_columns_view}
 use Rattle.vault.specs.Calls.{SwapsRoot}
 use Rattle.table.specs.Table.{empty_table}
-use Rattle.table_openings.proofs.AfterCreations.{unmoved, swap_leaves, swap_refused, swap_room, swap_cause}
+use Rattle.table_openings.proofs.AfterCreations.{unmoved, swap_leaves, swap_refused, swap_room, swap_cause, swap_doubted}
 use Rattle.table_openings.proofs.creating.put_first.Goals as goal
 
 pub returns-in-Ok-swap_root-clause-made : goal.returns-in-Ok-swap_root-clause-made
@@ -49,6 +49,14 @@ returns-in-Err-swap_root-clause-cause g c honest =
     let failed = Err c.in-Err-swap_root.e in
     let swaps = subst (λ (b : List ℕ). SwapsRoot {T = Unit {0}} b old new failed) c.as_slice.ensures.value (c.in-Err-swap_root.ensures.effect honest) in
     swap_cause c.args.schema (key_columns_view c.args.keys.items) c.in-Ok.first c.in-Ok.ensures.made old new failed swaps c.in-Err-swap_root.e refl
+
+pub returns-in-Err-swap_root-clause-in_doubt : goal.returns-in-Err-swap_root-clause-in_doubt
+returns-in-Err-swap_root-clause-in_doubt g c honest =
+    let old = g.D.Disk.state c.args.vault.now.disk in
+    let new = g.D.Disk.state c.swap_root.new.self.disk in
+    let failed = Err c.in-Err-swap_root.e in
+    let swaps = subst (λ (b : List ℕ). SwapsRoot {T = Unit {0}} b old new failed) c.as_slice.ensures.value (c.in-Err-swap_root.ensures.effect honest) in
+    swap_doubted c.args.schema (key_columns_view c.args.keys.items) c.in-Ok.first c.in-Ok.ensures.made old new failed swaps c.in-Err-swap_root.e refl
 
 pub returns-in-Err-swap_root-clause-refused : goal.returns-in-Err-swap_root-clause-refused
 returns-in-Err-swap_root-clause-refused g c honest =

@@ -1,6 +1,6 @@
 use Rattle.schema.specs.Keys.{key_columns_view}
 use Rattle.table.specs.Table.{empty_table}
-use Rattle.table_openings.proofs.AfterCreations.{none_on, read_leaves, read_room, leaves_on, cause_on}
+use Rattle.table_openings.proofs.AfterCreations.{none_on, read_leaves, read_room, leaves_on, cause_on, doubt_on}
 use Rattle.table_openings.proofs.creating.put_new.Goals as goal
 
 pub returns-in-Ok-clause-moments : goal.returns-in-Ok-clause-moments
@@ -24,6 +24,12 @@ returns-in-Ok-clause-cause g c honest room =
     let left = c.in-Ok.ensures.unchanged honest in
     cause_on old mid left (g.D.Disk.state c.put_first.new.vault.disk) c.put_first.result c.in-Ok.ensures.told
     (c.put_first.ensures.cause (c.in-Ok.ensures.honest.0 honest) (read_room old mid left (key_columns_view c.args.keys.items) room))
+
+pub returns-in-Ok-clause-in_doubt : goal.returns-in-Ok-clause-in_doubt
+returns-in-Ok-clause-in_doubt g c honest =
+    let old = g.D.Disk.state c.args.vault.now.disk in
+    let mid = g.D.Disk.state c.check_new.new.vault.disk in
+    doubt_on old mid (c.in-Ok.ensures.unchanged honest) (g.D.Disk.state c.put_first.new.vault.disk) c.put_first.result (c.put_first.ensures.in_doubt (c.in-Ok.ensures.honest.0 honest))
 
 pub returns-in-Err-clause-room : goal.returns-in-Err-clause-room
 returns-in-Err-clause-room g c honest room =

@@ -3,7 +3,7 @@ use Rattle.schema.specs.Keys.{KeyColumn, key_columns_view}
 use Rattle.table.specs.Table.{empty_table}
 use Rattle.table_state.specs.Spares.{HasRoom}
 use Rattle.table_openings.specs.Opening.{HasNoRoot}
-use Rattle.table_openings.proofs.NewTables.{same_keys, not_created_at, leaves_moved, failed_moved, stands_so}
+use Rattle.table_openings.proofs.NewTables.{same_keys, not_created_at, leaves_moved, failed_moved, doubt_moved, stands_so}
 use Rattle.table_openings.proofs.AfterCreations.{unmoved, versions_are}
 use Rattle.table_openings.proofs.opening.create.Goals as goal
 
@@ -54,6 +54,11 @@ returns-clause-cause g c honest keys named room why =
     let before = subst (λ d. (g.D.Disk.state d).honest) (sym c.start-vault.ensures) honest in
     let room_before = subst (λ (ks : List KeyColumn). HasRoom ks (g.D.Disk.state c.start-vault.result.disk)) same (subst (λ d. HasRoom keys (g.D.Disk.state d)) (sym c.start-vault.ensures) room) in
     failed_moved g.D.Disk.state c.start-vault.result.disk c.args.disk c.put_new.new.vault.disk c.into_disk.result c.start-vault.ensures (sym c.into_disk.ensures) (c.in-Err-put_new.ensures.cause before room_before why)
+
+pub returns-clause-in_doubt : goal.returns-clause-in_doubt
+returns-clause-in_doubt g c honest is =
+    let before = subst (λ d. (g.D.Disk.state d).honest) (sym c.start-vault.ensures) honest in
+    doubt_moved g.D.Disk.state c.start-vault.result.disk c.args.disk c.put_new.new.vault.disk c.into_disk.result c.start-vault.ensures (sym c.into_disk.ensures) (c.in-Err-put_new.ensures.in_doubt before is)
 
 pub returns-clause-refused : goal.returns-clause-refused
 returns-clause-refused g c honest none other =

@@ -12,4 +12,4 @@ use Rattle.store.proofs.store.Store.append_gathered.Goals as goal
 pub returns-clause-cause : goal.returns-clause-cause
 returns-clause-cause g c =
     subst (λ (old : Core g.row.D.Denot). (rows : List Row) → holds c.args.gathered rows → AreGatheredFor (root_of old.manifest) old.options c.args.gathered
-        → HasCause g.D.Disk.state old c.append_gathered.new.store (answered {T = ℕ} (λ x. done x) c.append_gathered.result)) c.self.view_is c.append_gathered.ensures.cause
+    → HasCause g.D.Disk.state old c.append_gathered.new.store (answered {T = ℕ} (λ x. done x) c.append_gathered.result)) c.self.view_is c.append_gathered.ensures.cause
