@@ -188,8 +188,16 @@ def column_of(field: Field, values: List[Any]) -> Any:
     return pa.array(values if convert is None else [convert(it) for it in values], kind)
 
 
+def table_of_no_columns(count: int) -> Any:
+    """A `pyarrow.Table` with so many rows and no column."""
+    pa = _pa()
+    return pa.Table.from_arrays([pa.nulls(count)], ["none"]).remove_column(0)
+
+
 def table_of_rows(fields: Sequence[Field], batches: Iterator[List[Dict[str, Any]]]) -> Any:
     """A `pyarrow.Table` of rows as the program prints them."""
+    if not fields:
+        return table_of_no_columns(sum(len(it) for it in batches))
     pa = _pa()
     schema = pa.schema([_arrow_field(it) for it in fields])
     made = []

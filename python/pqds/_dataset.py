@@ -40,6 +40,8 @@ _LONGEST_WORD = 100_000
 # All words of a call and the environment have at most 2 MiB; so many numbers of groups fit, and names of so many bytes.
 _MOST_WORDS = 50_000
 _MOST_BYTES = 1_500_000
+# So many rows without columns are given at a time.
+_MOST_EMPTY = 1 << 16
 
 
 class Whole(NamedTuple):
@@ -168,7 +170,8 @@ class Dataset:
     ) -> Any:
         """The rows as a `pyarrow.Table`, with the types of the columns. Takes and raises what `rows` does.
 
-        The program writes the rows as Parquet files in a temporary folder, which pyarrow reads.
+        The program writes the rows as Parquet files in a temporary folder, which pyarrow reads. With `columns=[]` the
+        table has the rows, and no column.
         """
         wanted = self._selection(filters, columns)
         table = self._by_files(wanted, limit)
@@ -183,7 +186,8 @@ class Dataset:
         """The rows as a `pandas.DataFrame`. Takes and raises what `rows` does.
 
         OPTIONAL integers and booleans have pandas' nullable types, timestamps are in UTC, and dates, times, decimals,
-        bytes, lists, maps and groups are Python's objects. With pyarrow the rows come as they do for `to_arrow`.
+        bytes, lists, maps and groups are Python's objects. With pyarrow the rows come as they do for `to_arrow`. With
+        `columns=[]` the frame has an index of the rows, and no column.
         """
         wanted = self._selection(filters, columns)
         table = self._by_files(wanted, limit)
@@ -367,7 +371,10 @@ class Dataset:
         with _filter_words(wanted.filter) as words:
             if not names:
                 # Without names the program would print all columns.
-                yield [{}] * min(int(self._call("count", words)), sys.maxsize if limit is None else limit)
+                left = min(int(self._call("count", words)), sys.maxsize if limit is None else limit)
+                while left > 0:
+                    yield [{}] * min(left, _MOST_EMPTY)
+                    left -= _MOST_EMPTY
                 return
             for some in lines("query", self._words([*words, *limit_words(limit)], names)):
                 yield json.loads(b"[%b]" % b",".join(some))

@@ -6,6 +6,7 @@ import datetime
 import importlib
 import re
 from contextlib import suppress
+from itertools import repeat
 from typing import Any, Dict, Iterator, List, Mapping, Sequence
 
 from . import _arrow
@@ -136,7 +137,8 @@ def rows_of(frame: Any, fields: Sequence[Field]) -> Iterator[Dict[str, Any]]:
     step = 1 << 14
     for begin in range(0, len(frame), step):
         part = frame.iloc[begin : begin + step]
-        for values in zip(*[_values(part[it.name], it) for it in chosen]):
+        columns = [_values(part[it.name], it) for it in chosen]
+        for values in zip(*columns) if columns else repeat((), len(part)):
             yield dict(zip(names, values))
 
 
@@ -148,7 +150,8 @@ def arrow_table(frame: Any, fields: Sequence[Field], floats: Mapping[str, int]) 
         if field.name in frame.columns:
             columns.append(_arrow_column(pa, frame[field.name], field, floats))
             names.append(field.name)
-    return _arrow.cast(pa.Table.from_arrays(columns, names), fields, floats)
+    table = pa.Table.from_arrays(columns, names) if columns else _arrow.table_of_no_columns(len(frame))
+    return _arrow.cast(table, fields, floats)
 
 
 def _arrow_column(pa: Any, column: Any, field: Field, floats: Mapping[str, int]) -> Any:
@@ -177,8 +180,16 @@ def _arrow_column(pa: Any, column: Any, field: Field, floats: Mapping[str, int])
 # ---- from the program ----
 
 
+def _frame_of_no_columns(count: int) -> Any:
+    """A frame with so many rows and no column."""
+    pandas = _pd()
+    return pandas.DataFrame(index=pandas.RangeIndex(count))
+
+
 def frame_of_rows(fields: Sequence[Field], batches: Iterator[List[Dict[str, Any]]]) -> Any:
     """A frame of rows as the program prints them."""
+    if not fields:
+        return _frame_of_no_columns(sum(len(it) for it in batches))
     pandas = _pd()
     parts: List[List[Any]] = [[] for _ in fields]
     for rows in batches:
@@ -193,6 +204,8 @@ def frame_of_rows(fields: Sequence[Field], batches: Iterator[List[Dict[str, Any]
 
 def frame_of_arrow(fields: Sequence[Field], table: Any) -> Any:
     """A frame of a `pyarrow.Table` with these columns, in the types of `frame_of_rows`."""
+    if not fields:
+        return _frame_of_no_columns(table.num_rows)
     return _pd().DataFrame({it.name: _series_of_arrow(it, table[it.name]) for it in fields})
 
 

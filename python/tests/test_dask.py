@@ -86,6 +86,11 @@ class Dask(RoomCase):
             with self.subTest(filters=filters), pqds.dask.reading("t=1", filters, ["n", "k"]) as frame:
                 self.assertEqual(self.rows(frame), self.wanted(filters, ["n", "k"]))
 
+    def test_rows_without_columns(self) -> None:
+        for filters, count in ((None, 4), ([("n", "==", 3)], self.table.count([("n", "==", 3)])), ([("n", "<", 0)], 0)):
+            with self.subTest(filters=filters), pqds.dask.reading("t=1", filters, []) as frame:
+                self.assertEqual(frame.compute().shape, (count, 0))
+
     def test_changes_are_not_seen(self) -> None:
         with pqds.dask.reading("t=1") as frame:
             wanted = self.wanted()

@@ -9,6 +9,7 @@ import pickle
 import unittest
 from pathlib import Path
 from typing import Any, Dict, Iterator, List
+from unittest import mock
 
 from support import ORDERS, RoomCase
 
@@ -66,6 +67,10 @@ class Tables(RoomCase):
         )
         self.assertEqual(list(table.rows(limit=0)), [])
         self.assertEqual(list(table.rows([("order", "==", 1)], columns=[])), [{}])
+        self.assertEqual(list(table.rows([("order", "==", 7)], columns=[])), [])
+        with mock.patch("pqds._dataset._MOST_EMPTY", 2):
+            for limit, count in ((None, 3), (3, 3), (2, 2), (1, 1), (0, 0)):
+                self.assertEqual(list(table.rows(columns=[], limit=limit)), [{}] * count)
 
     def test_the_limit_goes_to_the_program(self) -> None:
         table = self.filled()

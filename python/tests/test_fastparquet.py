@@ -68,6 +68,18 @@ class Words(RoomCase):
         self.assertEqual(self.file.remove_row_groups([1]), 1)
         self.assertEqual(self.file.count(), 0)
 
+    def test_append_is_true_or_false(self) -> None:
+        more: Any
+        for more in ("overwrite", 1, 0, "", None):
+            with self.subTest(append=more), self.assertRaises(ValueError) as caught:
+                pqds.write("t", [{"region": "a", "order": 9}], append=more)
+            self.assertEqual(str(caught.exception), f"append: expected True or False, found {more!r}")
+            with self.assertRaises(ValueError):
+                pqds.write("u", ORDERS, append=more)
+        self.assertEqual(self.file.count(), 3)
+        self.assertFalse(Path("u").exists())
+        self.assertEqual(pqds.write("t", [{"region": "a", "order": 9}], append=True), 1)
+
     def test_there_is_no_table(self) -> None:
         with self.assertRaises(pqds.Refused):
             pqds.ParquetFile("nowhere")
@@ -86,6 +98,9 @@ class Frames(RoomCase):
         self.assertEqual(file.head(1)["n"].tolist(), [1])
         self.assertEqual([it["n"].tolist() for it in file.iter_row_groups()], [[1, 3], [2]])
         self.assertEqual([it["n"].tolist() for it in file.iter_row_groups([("n", "<", 2)], ["n"])], [[1]])
+        self.assertEqual([it.shape for it in file.iter_row_groups(columns=[])], [(2, 0), (1, 0)])
+        self.assertEqual(file.to_pandas(columns=[]).shape, (3, 0))
+        self.assertEqual(file.head(2, columns=[]).shape, (2, 0))
         self.assertEqual(file.write_row_groups(self.frame()), 3)
         self.assertEqual(list(file.dtypes), ["k", "n", "s"])
         self.assertEqual(str(file.dtypes["n"]), "int64")

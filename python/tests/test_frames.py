@@ -120,6 +120,20 @@ class Frames(RoomCase):
         self.assertEqual((len(frame), int(frame["n"].sum()), frame.index[-1]), (100_000, 4_999_950_000, 99_999))
         self.assertEqual(len(table.to_pandas(limit=70_000)), 70_000)
 
+    def test_no_columns_of_many_rows(self) -> None:
+        for there in (True, False):
+            table = pqds.create(f"t{there}", SCHEMA[1:3])
+            with mock.patch("pqds._arrow.is_there", return_value=there and HAS_ARROW):
+                self.assertEqual(table.to_pandas(columns=[]).shape, (0, 0))
+                table.append(pd.DataFrame({"s": [f"text {it}" for it in range(70_000)]}))
+                frame = table.to_pandas(columns=[])
+                pd.testing.assert_index_equal(frame.index, pd.RangeIndex(70_000))
+                self.assertEqual(list(frame.columns), [])
+                self.assertEqual(table.to_pandas([("s", "<", "text 2")], [], 3).shape, (3, 0))
+                self.assertEqual(table.append(frame[:2]), 2)
+                self.assertEqual(list(table.rows())[-2:], [{"d": None, "s": None}] * 2)
+                self.assertEqual(table.append(frame[:0]), 0)
+
     def test_integers_with_nulls_are_floats_in_pandas(self) -> None:
         table = pqds.create("t", SCHEMA)
         frame = pd.DataFrame({"n": [1.0, 2.0], "o": [None, 5.0]})
@@ -254,6 +268,16 @@ class Arrow(RoomCase):
 
         self.assertEqual(pqds.write("v", Stream()), 3)
         self.assertTrue(pqds.open("v").to_arrow().equals(wanted))
+
+    def test_no_columns_of_many_rows(self) -> None:
+        table = pqds.create("t", SCHEMA[1:3])
+        self.assertEqual(table.to_arrow(columns=[]).shape, (0, 0))
+        table.append([{"s": f"text {it}"} for it in range(70_000)])
+        found = table.to_arrow(columns=[])
+        self.assertEqual((found.shape, found.column_names), ((70_000, 0), []))
+        self.assertEqual(table.to_arrow([("s", "<", "text 2")], [], 3).shape, (3, 0))
+        self.assertEqual(table.append(found[:2]), 2)
+        self.assertEqual(list(table.rows())[-2:], [{"d": None, "s": None}] * 2)
 
     def test_null_columns_of_a_schema(self) -> None:
         schema = pa.schema([pa.field("k", pa.string()), pa.field("n", pa.int32(), nullable=False), ("o", pa.int64())])

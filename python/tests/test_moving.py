@@ -105,6 +105,10 @@ class Moving(RoomCase):
         self.assertEqual(mine, other)
         with self.assertRaises(pqds.Refused):
             pqds.write("nowhere", self.frame, append=True)
+        again: Any = "overwrite"
+        with self.assertRaises(ValueError):
+            pqds.write(ours.dataset.path, self.frame, append=again)
+        self.assertEqual(ours.count(), 8)
 
     def write_again(self) -> None:
         ours, theirs = self.both()
