@@ -1,6 +1,9 @@
 """Odd names, modes, limits and outputs: see folders.sh, which runs this."""
 import contextlib, itertools, json, os, resource, shutil, signal, socket, stat, subprocess, sys
 
+if len(sys.argv) != 3:
+    print("folders.py PROGRAM ROOM: bench/faults/folders.sh runs this", file=sys.stderr)
+    sys.exit(2)
 program, room = sys.argv[1:]
 os.chdir(room)
 LONGEST = 60

@@ -2,7 +2,7 @@
 # Tries what may stand in the folder of a dataset, who may use its files, and what ends a command from outside, in a temporary
 # folder, which is removed. Prints a line for each try; the status is 1 where one fails.
 #
-#     bench/faults/folders.sh [PROGRAM]       this program in place of ./pqds
+#     bench/faults/folders.sh [PROGRAM]       with this program, or that of bench/tools/program.sh
 #
 # - Links, pipes, sockets, devices and names that are no UTF-8, at the top and in a folder of a key, change no answer, and keep no
 #   command from cleaning up after a killed one. They stay, and so does what a link leads to.
@@ -17,5 +17,12 @@
 # - A full disk (a small tmpfs), and a folder that may not be written to.
 #
 # Kills and failures need strace. Other groups, devices and small disks need the superuser, and are passed over for others.
-. "$(dirname -- "$0")/room.sh"
-PYTHONDONTWRITEBYTECODE=1 python3 "$top/bench/faults/folders.py" "$program" "$room"
+top=$(CDPATH='' cd -- "$(dirname -- "$0")/../.." && pwd) || exit 1
+. "$top/bench/tools/usage.sh"
+no_options "$@"
+[ $# -le 1 ] || usage
+needs python3
+program=$(PQDS=${1:-$PQDS} "$top/bench/tools/program.sh") || exit 1
+program=$(realpath -- "$program") || exit 1
+make_room
+python3 -B "$top/bench/faults/folders.py" "$program" "$room"

@@ -1,14 +1,17 @@
 #!/bin/sh
-# bench/speed/memory.sh [PQDS]: the most memory that each command takes, in MB, for the table of docs/USAGE.md: 600,000 rows of two
-# numbers and a text, as lines, as a Parquet file, and in a dataset of 10 keys with one group each.
+# bench/speed/memory.sh [PROGRAM]: prints the most memory that each command takes, in MB, for the table of docs/USAGE.md, with this
+# program or that of bench/tools/program.sh: for 600,000 rows of two numbers and a text, as lines, as a Parquet file, and in a dataset
+# of 10 keys with one group each.
 #
 # The program is begun as ./pqds does it, with huge pages. It needs the program `time`: what the system says of a child counts the
 # memory of Python, which began it.
 top=$(CDPATH='' cd -- "$(dirname -- "$0")/../.." && pwd) || exit 1
-program=${1:-$("$top/bench/tools/program.sh")} || exit 1
-room=$(mktemp -d) || exit 1
-trap 'rm -rf "$room"' EXIT
-trap 'exit 130' INT TERM HUP
+. "$top/bench/tools/usage.sh"
+no_options "$@"
+[ $# -le 1 ] || usage
+needs python3 time
+program=$(PQDS=${1:-$PQDS} "$top/bench/tools/program.sh") || exit 1
+make_room
 python3 - "$program" "$room" <<'PYTHON'
 import json, os, shutil, subprocess, sys
 

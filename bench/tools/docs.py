@@ -41,6 +41,7 @@ LONG = {
     "bench/faults/locks.sh",
     "bench/faults/stops.sh",
     "bench/peers/peers.sh ROOM",
+    "bench/speed/memory.sh",
     "bench/speed/table.sh",
     "bench/tools/docs.sh",
     "bench/tools/docs.sh docs/PYTHON.md",
