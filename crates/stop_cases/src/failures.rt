@@ -14,6 +14,7 @@ pub const DOUBT: &str = "{\"name\":\"InDoubt\",\"refused\":26}";
 const CLOSED: &str = "{\"name\":\"Closed\",\"refused\":27}";
 
 /// How a call with one failure went.
+#[derive(Drop)]
 pub enum Made {
     AsEver,
     InDoubt,
