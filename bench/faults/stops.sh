@@ -20,7 +20,7 @@ for loop; do
         creation-failures) echo "creation-failures $pick = 8 failures, 2 in doubt, not allowed: 0" ;;
         creation-reopenings) echo "creation-reopenings $pick $(seq -s ' ' 0 17) = 144 openings, stops in each, not allowed: 0" ;;
         columns) echo "columns $pick = 7 stops, 126 images, not allowed: 0" ;;
-        failures) echo "failures $pick = 85 failures, not allowed: 0" ;;
+        failures) echo "failures $pick = 85 failures, 10 in doubt, not allowed: 0" ;;
         stops) echo "stops $pick = 85 stops, 1530 images, not allowed: 0" ;;
         reopenings) echo "reopenings $pick $(seq -s ' ' 0 17) = 1530 openings, stops in each, not allowed: 0" ;;
         *)
