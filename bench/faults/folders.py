@@ -195,8 +195,12 @@ tell("they stay, and what they lead to", odd <= set(names("t")) and stays(), odd
 
 # ---- a name that a dataset could have given ----
 
-for name, keyed in (("_metadata.new", True), ("k=c", True), ("z=1", True), ("part.2.parquet", True), ("k=a/part.2.parquet", True), ("k=a/part.9.parquet", True),
-                    ("k=a/_metadata", True), ("part.1.parquet", False), ("part.7.parquet", False)):
+OTHER_NODE = "25 Device: neither a file nor a folder"
+
+# Its place, whether the table has a key, and whether a commit may come to it.
+for name, keyed, is_found in (("_metadata.new", True, True), ("k=c", True, True), ("z=1", True, False), ("part.2.parquet", True, False),
+                              ("k=a/part.2.parquet", True, True), ("k=a/part.9.parquet", True, True), ("k=a/_metadata", True, False),
+                              ("part.1.parquet", False, True), ("part.7.parquet", False, True)):
     for kind, put in ODD.items():
         folder = new_table() if keyed else new_table(schema="plain.json", rows="plain.jsonl", keys=())
         table = TABLE if keyed else '{"x":1}\n'
@@ -207,8 +211,10 @@ for name, keyed in (("_metadata.new", True), ("k=c", True), ("z=1", True), ("par
         after = called("query", folder)
         more = '{"k":"c","x":3}\n' if keyed else '{"x":1}\n'
         is_done = ended[0] == 0 and after == (0, table + more, "") or refusal(ended) == 25 and after == (0, table, "")
-        tell(f"a {kind} called {name}{'' if keyed else ', without keys'}: check and inspect are refused, an append is {'done' if ended[0] == 0 else 'refused'}",
-             refusal(checked) == refusal(looked) == 25 and read == (0, table, "") and is_done and os.path.lexists(f"{folder}/{name}") and stays(),
+        finding = f"{folder}/{name}: {OTHER_NODE}\nfindings: 1\n"
+        is_told = refusal(checked) == 25 and checked[1] == finding if is_found else checked[0] == 0
+        tell(f"a {kind} called {name}{'' if keyed else ', without keys'}: {'a finding of check' if is_found else 'no finding'}, an append is {'done' if ended[0] == 0 else 'refused'}",
+             is_told and looked[0] == 0 and read == (0, table, "") and is_done and os.path.lexists(f"{folder}/{name}") and stays(),
              (checked, looked, read, ended, after))
 
 for kind, put in ODD.items():
@@ -220,8 +226,10 @@ for kind, put in ODD.items():
     new_table()
     os.rename("t/k=a", "moved")
     put("t/k=a")
-    ended = [called(*words) for words in (("check", "t"), ("inspect", "t"), ("query", "t"), ("append", "t", "rows.jsonl"))]
-    tell(f"a {kind} in the place of a key's folder: all is refused", all(refusal(it) == 25 for it in ended) and stays(), ended)
+    checked, looked, *ended = [called(*words) for words in (("check", "t"), ("inspect", "t"), ("query", "t"), ("append", "t", "rows.jsonl"))]
+    tell(f"a {kind} in the place of a key's folder: a finding of check, and query and append are refused",
+         refusal(checked) == 25 and f"t/k=a: {OTHER_NODE}\n" in checked[1] and "t/k=a/part.0.parquet: 25 Device: it cannot be read\n" in checked[1] and looked[0] == 0
+         and all(refusal(it) == 25 for it in ended) and stays(), (checked, looked, ended))
     os.remove("t/k=a")
     os.rename("moved", "t/k=a")
     tell("without it the table is whole", is_whole("t")[0])

@@ -6,8 +6,8 @@
 #
 # - Links, pipes, sockets, devices and names that are no UTF-8, at the top and in a folder of a key, change no answer, and keep no
 #   command from cleaning up after a killed one. They stay, and so does what a link leads to.
-# - The same with a name that a dataset could have given: `check` and `inspect` are refused 25. Readers read the table, a command
-#   that changes it is done or refused, none waits, and what a link leads to stays.
+# - The same with a name that a dataset could have given: where a commit may come to it, it is a finding of `check`. Readers read the
+#   table, a command that changes it is done or refused, none waits, and what a link leads to stays.
 # - A folder that has the name of the next root or of a part file to come is a finding of `check`.
 # - New files have the mode and the group of the root, and new folders those of the dataset's folder, whatever the umask. Where they
 #   cannot be set, the change is made, and nobody may do more than before.

@@ -4,8 +4,7 @@ use crate::host_folders::{check_folder, own_folder};
 use crate::links::is_linked;
 use crate::odd_names::Odd;
 use crate::rows::{Row, check_calls};
-use disk::Fault::Failed;
-use disk::{Disk, HostDisk, path_in};
+use disk::{Disk, Entry, HostDisk, Kind, path_in};
 use std::fs;
 use std::test::*;
 
@@ -32,7 +31,7 @@ const LINKS: &[&str] = &[
     "k=a/part.0.parquet.tmp",
 ];
 
-/// Names of a dataset, at each of which a link makes the listing fail.
+/// Names of a dataset, at each of which a link is listed as what it is.
 const OWN_NAMES: &[&str] = &[
     "_metadata.new",
     "part.7.parquet",
@@ -41,14 +40,20 @@ const OWN_NAMES: &[&str] = &[
     "other=",
 ];
 
-/// Whether the listing of a folder fails, once, while a link has this name in it.
-fn fails_at(rt: &HostRuntime, folder: &str, name: &str) -> Result<bool, Fail> {
+/// Whether an entry is the one of a name, and neither a file nor a folder.
+fn is_other(entry: &Entry, name: &str) -> bool {
+    entry.kind == Kind::Other && entry.name.as_bytes() == name.as_bytes()
+}
+
+/// Whether the listing of a folder has a link with this name as neither a file nor a folder.
+fn is_listed(rt: &HostRuntime, folder: &str, name: &str) -> Result<bool, Fail> {
     let path = path_in(rt.alloc(), folder, name)?;
     let made = is_linked(rt, folder, name, "nowhere");
     let mut disk = HostDisk::new(rt.alloc(), rt.clone()?, folder)?;
-    let failed = disk.list(rt.alloc(), "").err() == Some(Failed) && disk.failures() == 1;
+    let entries = disk.list(rt.alloc(), "")?;
+    let listed = entries.iter().any(|entry| is_other(entry, name));
     fs::remove_file(rt, path.as_str())?;
-    Ok(made && failed)
+    Ok(made && listed && disk.failures() == 0)
 }
 
 #[test]
@@ -66,7 +71,7 @@ fn a_listing_passes_over_what_no_dataset_has_made(rt: HostRuntime) -> Result<(),
     check_calls(rt.alloc(), &mut disk, LISTED)?;
     assert!(rt; disk.failures() == 0);
     for name in OWN_NAMES {
-        assert!(rt; fails_at(&rt, folder, name)?);
+        assert!(rt; is_listed(&rt, folder, name)?);
     }
     Ok(fs::remove_dir_all(&rt, folder)?)
 }

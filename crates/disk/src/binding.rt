@@ -14,6 +14,8 @@ pub enum Binding {
 pub enum Kind {
     File,
     Folder,
+    /// a link, a pipe, a device or a socket: an honest disk lists none
+    Other,
 }
 
 /// A name in a folder that was listed.

@@ -12,8 +12,8 @@ use std::alloc::Global;
 use std::fs::{self, DirEntry, Files};
 use std::io::{self, ErrorKind};
 
-/// The files and folders in a folder. A name of another kind of node, or one that is not UTF-8, is passed over, since no
-/// dataset has given it; a link, a pipe, a device or a socket with a name that a dataset could have given fails.
+/// The files and folders in a folder, and each link, pipe, device or socket with a name that a dataset could have given. One
+/// with another name is passed over, and so is a name that is not UTF-8, since no dataset has given it.
 pub fn list<R: Files + Clone + Drop>(
     files: &R,
     alloc: Global,
@@ -46,7 +46,7 @@ fn listed<R: Files + Clone + Drop>(
     let kind = match found_in(entry.metadata())? {
         Found::File(_) => Kind::File,
         Found::Folder => Kind::Folder,
-        Found::Other if is_dataset_name(entry.file_name()) => return Err(Cause::other_node()),
+        Found::Other if is_dataset_name(entry.file_name()) => Kind::Other,
         // The name was removed after the system had listed it, or is none of the dataset's.
         Found::Nothing | Found::Other => return Ok(None),
     };

@@ -37,6 +37,7 @@ fn look_into<D: Disk>(
                 found.push(format!(in alloc; "{path}/")?)?;
                 deeper.push(path)?;
             }
+            Kind::Other => found.push(format!(in alloc; "{path}?")?)?,
         }
     }
     Ok(())

@@ -139,11 +139,12 @@ pub fn shown_file(alloc: Global, bytes: &[u8]) -> R<String> {
     Ok(shown)
 }
 
-/// A listed name: that of a folder has a slash after it.
+/// A listed name: that of a folder has a slash after it, that of a link, a pipe, a device or a socket a `?`.
 fn shown_name(alloc: Global, entry: &Entry) -> R<String> {
     let slash = match entry.kind {
         Kind::Folder => "/",
         Kind::File => "",
+        Kind::Other => "?",
     };
     let name = entry.name.as_str();
     Ok(format!(in alloc; "{name}{slash}")?)

@@ -62,6 +62,7 @@ pub fn stray_at(alloc: Global, named: &NamedParts, folder: &str, entry: &Entry) 
             None => Ok(None),
         },
         Kind::Folder => Ok(None),
+        Kind::Other => Ok(None),
     }
 }
 

@@ -1,6 +1,7 @@
 //! Which limit is exceeded, and by how much.
 
 use bits::R;
+use footer::MOST_GROUP_ROWS;
 use jsonrows::Reader;
 use schema::{Field, Row, Schema, Value};
 use std::alloc::Global;
@@ -8,9 +9,6 @@ use std::fmt::{self, Display, Formatter};
 
 /// How many bytes a value has at most.
 const MOST_BYTES: usize = 16_777_216;
-
-/// How many rows a row group has at most.
-const MOST_GROUP_ROWS: u32 = 16_777_216;
 
 /// A limit that is exceeded.
 #[derive(Debug, Drop)]

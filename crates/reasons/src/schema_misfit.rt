@@ -5,6 +5,7 @@
 use crate::json_text::{Text, of_lines};
 use crate::misfit::{Misfit, shown};
 use bits::{R, Refusal};
+use jsonrows::{GROUP_MEMBERS, LEAF_MEMBERS};
 use schema::{Field, Repetition, Schema};
 use serde_json::{Map, Value as Json};
 use std::alloc::Global;
@@ -40,20 +41,6 @@ const NOTES: [&str; 20] = [
 ];
 
 const GROUP_NOTES: [&str; 3] = ["map", "map_key_value", "list"];
-
-const LEAF_MEMBERS: [&str; 9] = [
-    "name",
-    "rep",
-    "type",
-    "length",
-    "note",
-    "scale",
-    "precision",
-    "converted",
-    "logical",
-];
-
-const GROUP_MEMBERS: [&str; 4] = ["name", "rep", "fields", "note"];
 
 /// What is wrong with the text of a schema that was refused so.
 pub fn of_schema(alloc: Global, text: &str, refusal: &Refusal) -> R<Misfit> {

@@ -39,7 +39,7 @@ fn look_into(
     Ok(deeper)
 }
 
-/// The paths of some entries of a folder.
+/// The paths of some entries of a folder: that of a link, a pipe, a device or a socket has a `?` after it.
 fn put_entries(
     alloc: Global,
     folder: &str,
@@ -52,6 +52,7 @@ fn put_entries(
         match entry.kind {
             Kind::File => files.push(path)?,
             Kind::Folder => deeper.push(path)?,
+            Kind::Other => files.push(format!(in alloc; "{path}?")?)?,
         }
     }
     Ok(())

@@ -1,6 +1,6 @@
 //! The files of a table against its root.
 
-ghost use Rattle.std.specs.Prelude.{◌≡◌, [], ℕ, Some, Ok, IfOk, IfSome, OnOk, length};
+ghost use Rattle.std.specs.Prelude.{◌≡◌, [], ℕ, Some, Ok, IfOk, OnOk, length};
 ghost use Rattle.std.specs.List.{slice_get};
 ghost use Rattle.disk.specs.State.{content};
 ghost use Rattle.manifest.specs.Groups.{Group as GroupShown, root_of, group_view};
@@ -28,8 +28,8 @@ use vault::Vault;
 pub struct Checked {
     /// What the root says of the table.
     pub totals: Totals,
-    /// The findings of the files that the table names, in table order, at most one a file; then the folders that have the name
-    /// of a file which a commit makes.
+    /// The findings of the files that the table names, in table order, at most one a file; then the nodes of another kind than
+    /// their name says.
     pub findings: Vec<Finding>,
     /// The part files that the table does not name, and how many bytes they have in all. They are no fault: a reader may need
     /// them, and the next command that changes the table removes them once none does.
@@ -45,12 +45,14 @@ pub trait Watch {
 
 /// Reads each part file against the root that was read ([`described`](crate::described)): that it is there, is a file of
 /// just the columns that the table says it has, with one row group, whose records and number of rows are the root's; that
-/// its pages fill their chunks; and that the statistics in the root are true of its values. Also lists the folders for part
-/// files that the root does not name, and for folders that have the name of the next root or of a part file.
+/// its pages fill their chunks; and that the statistics in the root are true of its values. A file that the disk fails to read
+/// is a finding too. Also lists the folders for part files that the root does not name; for folders that have the name of the
+/// next root or of a part file; for files that have the name of a key's folder; and for links, pipes, devices and sockets
+/// with one of these names.
 ///
 /// Where nothing is found, each file is there and holds its group (`AreHeld`); where no other file is listed either, the
 /// table is intact (`IsIntact`). Nothing is changed. Holds one file, and one of its columns, at a
-/// time. Refused Device where the disk failed, Limit where the rows or bytes in all pass 2^64, Key for a group whose key
+/// time. Refused Device where a folder cannot be listed, Limit where the rows or bytes in all pass 2^64, Key for a group whose key
 /// cannot partition, which no root says, and Memory. Time is linear in the bytes of the files and their entries.
 pub fn check<D: Disk, W: Watch>(
     alloc: Global,
@@ -96,8 +98,7 @@ fn add_finding(
     Ok(())
 }
 
-/// Adds a finding for each damaged file that the root names, then one for each folder that has the name of a file which a
-/// commit makes.
+/// Adds a finding for each damaged file that the root names, then one for each node of another kind than its name says.
 fn check_files<D: Disk, W: Watch>(
     alloc: Global,
     vault: &mut Vault<D>,
@@ -110,16 +111,20 @@ fn check_files<D: Disk, W: Watch>(
     ensures effect { Looks (length (root_of manifest.now).groups) (D.state vault.old.disk) (D.state vault.new.disk) }
 {
     check_groups(alloc, vault, manifest, watch, findings)?;
-    let paths = obstacles(alloc, vault, manifest.keys())?;
-    add_obstacles(paths, findings)
+    let obstacles = obstacles(alloc, vault, manifest.keys())?;
+    add_obstacles(obstacles, findings)
 }
 
-/// Adds a finding for each of these folders.
-fn add_obstacles(paths: Vec<String>, findings: &mut Vec<Finding>) -> R<()>
+/// Adds these findings.
+fn add_obstacles(obstacles: Vec<Finding>, findings: &mut Vec<Finding>) -> R<()>
     ensures found { OnOk result (findings.new.items ≡ [] → findings.old.items ≡ []) }
 {
-    for path in paths {
-        add_finding(path, None, Damage::Folder, findings)?;
+    for Finding {
+        path,
+        column,
+        damage,
+    } in obstacles {
+        add_finding(path, column, damage, findings)?;
     }
     Ok(())
 }
@@ -178,27 +183,28 @@ fn check_group<D: Disk>(
 {
     let path = part_of_group(alloc, manifest, group)?;
     match read_part(alloc, vault, path.as_str())? {
-        Some(bytes) => check_bytes(alloc, manifest, group, path, bytes.as_slice(), findings),
-        None => add_finding(path, None, Damage::Missing, findings),
+        Ok(bytes) => check_bytes(alloc, manifest, group, path, bytes.as_slice(), findings),
+        Err(damage) => add_finding(path, None, damage, findings),
     }
 }
 
-/// The bytes of a file; None where it is not there.
-fn read_part<D: Disk>(alloc: Global, vault: &mut Vault<D>, path: &str) -> R<Option<Vec<u8>>>
-    ensures stands { (D.state vault.old.disk).honest → IfOk result (λ found. IfSome found (λ bytes. content (D.state vault.old.disk).seen path.now ≡ Some bytes.items)) }
+/// The bytes of a file; the damage where it is not there, or cannot be read.
+fn read_part<D: Disk>(alloc: Global, vault: &mut Vault<D>, path: &str) -> R<Result<Vec<u8>, Damage>>
+    ensures stands { (D.state vault.old.disk).honest → IfOk result (λ found. IfOk found (λ bytes. content (D.state vault.old.disk).seen path.now ≡ Some bytes.items)) }
     ensures effect { Looks 1 (D.state vault.old.disk) (D.state vault.new.disk) }
 {
     let read = vault.get_range(alloc, path, 0, usize::MAX);
-    unless_absent(read)
+    unless_damaged(read)
 }
 
-/// What was read; None where nothing is there.
-fn unless_absent(read: R<Vec<u8>>) -> R<Option<Vec<u8>>>
-    ensures { IfOk result (λ found. IfSome found (λ bytes. read ≡ Ok bytes)) }
+/// What was read; the damage where nothing is there, or the disk failed.
+fn unless_damaged(read: R<Vec<u8>>) -> R<Result<Vec<u8>, Damage>>
+    ensures { IfOk result (λ found. IfOk found (λ bytes. read ≡ Ok bytes)) }
 {
     match read {
-        Ok(bytes) => Ok(Some(bytes)),
-        Err(Refusal::Truncated) => Ok(None),
+        Ok(bytes) => Ok(Ok(bytes)),
+        Err(Refusal::Truncated) => Ok(Err(Damage::Missing)),
+        Err(Refusal::Device) => Ok(Err(Damage::Refused(Refusal::Device))),
         Err(e) => Err(e),
     }
 }

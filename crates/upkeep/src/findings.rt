@@ -10,6 +10,10 @@ pub enum Damage {
     Missing,
     /// A folder has the name of a file that a commit makes: of the next root, or of a part file. Commits are refused then.
     Folder,
+    /// A file has the name of a key's folder. A commit that has rows of such a key is refused.
+    File,
+    /// A link, a pipe, a device or a socket has a name that the table gives its files and folders.
+    OtherNode,
     /// The bytes of the file are refused so, as a Parquet file is.
     Refused(Refusal),
     /// The columns of the file are not those that the table says it has.
@@ -31,7 +35,8 @@ impl Damage {
     pub fn into_refusal(self) -> Refusal {
         match self {
             Damage::Missing => Refusal::Truncated,
-            Damage::Folder => Refusal::Exists,
+            Damage::Folder | Damage::File => Refusal::Exists,
+            Damage::OtherNode => Refusal::Device,
             Damage::Refused(refusal) => refusal,
             Damage::Schema => Refusal::Schema,
             Damage::Groups(_) | Damage::Rows | Damage::Record | Damage::Size | Damage::Statistics =>
@@ -44,6 +49,8 @@ impl Damage {
         match self {
             Damage::Missing => "1 Truncated: the table names this file, and it is not there",
             Damage::Folder => "24 Exists: a folder has the name of a file that a commit makes",
+            Damage::File => "24 Exists: a file has the name of a key's folder",
+            Damage::OtherNode => "25 Device: neither a file nor a folder",
             Damage::Refused(_) => "",
             Damage::Schema => "4 Schema: its columns are not those that the table says it has",
             Damage::Groups(_) => "9 Page: it has another number of row groups than one",

@@ -4,8 +4,8 @@ use Rattle.manifest.specs.Groups.{root_of}
 use Rattle.upkeep.proofs.Looking.{looks_then, looks_most}
 use Rattle.upkeep.proofs.checking.check_files.Goals as goal
 
-pub returns-in_err-paths-clause-effect : goal.returns-in_err-paths-clause-effect
-returns-in_err-paths-clause-effect g c =
+pub returns-in_err-obstacles-clause-effect : goal.returns-in_err-obstacles-clause-effect
+returns-in_err-obstacles-clause-effect g c =
     let n = length (root_of c.args.manifest.now).groups in
     let s0 = g.D.Disk.state c.args.vault.now.disk in
     let s2 = g.D.Disk.state c.obstacles.new.vault.disk in
