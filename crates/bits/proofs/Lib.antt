@@ -1,3 +1,4 @@
+pub mod Sevens
 pub mod Varints
 pub mod BitLists
 pub mod Put

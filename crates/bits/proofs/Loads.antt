@@ -5,9 +5,8 @@ use Rattle.std.proofs.Math.Seq.{drop-nil, take-nil}
 use Rattle.std.proofs.Math.Nat.{div-div-eq-div-mul, zero-div, zero-mod, pow-suc}
 use Rattle.std.proofs.lemmas.Nat.{and_mask, mod-pow-add}
 use Rattle.std.proofs.Math.Pow.{pow_mono}
-use Rattle.std.proofs.lemmas.List.{drop-take, length-drop, length-take, length-append, get_or-take, get_or_past, get_or_default, get_or-drop, get_or_append_left, get_or-append_right}
+use Rattle.std.proofs.lemmas.List.{take-take as take-again, drop-take, length-drop, length-take, length-append, get_or-take, get_or_past, get_or_default, get_or-drop, get_or_append_left, get_or-append_right}
 use Rattle.std.proofs.lemmas.Bool.{cases_lt}
-use Rattle.lists.proofs.Slices.{take_twice as take-again}
 use Rattle.byteorder.specs.Endian.{little_from, little_number}
 use Rattle.bits.specs.Bits.{bits, number, IsPacked}
 use Rattle.bits.proofs.BitLists.{bits_below, number_bound}

@@ -5,7 +5,7 @@ use Rattle.std.proofs.lemmas.Nat.{shl_whole, and_mask}
 use Rattle.std.proofs.lemmas.Bool.{cases_lt}
 use Rattle.std.proofs.Math.Nat.{pow-le-pow_right, mul-le-mul_left}
 use Rattle.std.specs.Int.Bits.{bit_and}
-use Rattle.lists.proofs.Numbers.{seven_more, powers_of_128 as powers}
+use Rattle.bits.proofs.Sevens.{seven_more, powers_of_128 as powers}
 use Rattle.bits.specs.Varint.{groups, IsUleb}
 
 pub groups_push : (xs : List ℕ) (b : ℕ) → groups (xs ++ b ∷ []) ≡ groups xs + 2 ^ (7 * length xs) * (b % 128)

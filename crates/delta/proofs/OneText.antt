@@ -8,7 +8,7 @@ use Rattle.std.proofs.lemmas.List.{take_all, length-drop, length-take-le, take_a
 use Rattle.std.proofs.lemmas.List.Elements.{All-drop, All-take, All-get_or, All-contains}
 use Rattle.std.proofs.lemmas.Grind.{same_number_lists}
 use Rattle.std.proofs.Math.Nat.{add-mul, mul-le-mul_right}
-use Rattle.lists.proofs.Numbers.{powers_of_128 as sevens}
+use Rattle.bits.proofs.Sevens.{powers_of_128 as sevens}
 use Rattle.lists.proofs.Lists.{same_number_and_rest as cons_same}
 use Rattle.bits.specs.Bits.{bits, number, IsPacked}
 use Rattle.bits.specs.Codec.{InTurn}

@@ -27,11 +27,8 @@ use row_group::{
     an_appended_group_has_its_rows, an_appended_group_is_within_limits, write_buffered_group,
 };
 use schema::{Row, Schema, ValueRef, a_list_means_one_schema};
-use shred::RowBuffer;
+use shred::{MOST_ROWS, RowBuffer};
 use std::alloc::{AllocError, Global};
-
-/// The most rows that a writer takes: more than any file has.
-const MOST_ROWS: usize = 1 << 62;
 
 /// A file that is being written. Its rows are given one by one, and each group is written when it is full: kept
 /// are the bytes so far, and the rows of one group, as columns.

@@ -1,6 +1,6 @@
 //! From rows to the bytes of a file.
 
-ghost use Rattle.std.specs.Prelude.{◌≡◌, List, map, length, true, false, IfOk, OnOk, OnErr, Err};
+ghost use Rattle.std.specs.Prelude.{◌≡◌, List, map, length, true, false, IfOk, OnOk, Err};
 ghost use Rattle.std.specs.List.{AllByRecursion};
 ghost use Rattle.std.specs.Prelude.{◌⊎◌};
 ghost use Rattle.bits.specs.Refusals.{OnFault, RefusedOnly};
@@ -15,7 +15,7 @@ ghost use Rattle.footer.specs.Writing.{chunk_options, groups_of, IsOutOfRange, I
 
 use crate::footer_record::record_of;
 use crate::footer_writing::with_footer;
-use crate::limits::MAGIC;
+use crate::limits::{MAGIC, MOST_GROUP_ROWS};
 use crate::options::WriteOptions;
 use bits::{R, Refusal};
 use metadata::{GroupMeta, one_footer};
@@ -23,11 +23,9 @@ use row_group::{an_appended_group_has_its_rows, an_appended_group_is_within_limi
 use schema::{Row, Schema, a_list_means_one_schema};
 use std::alloc::Global;
 
-/// The most rows that a written group may have.
-const MOST_GROUP_ROWS: u32 = 16_777_216;
-
-/// Whether the options are refused, whatever the rows.
-pub(crate) fn is_out_of_range(options: &WriteOptions) -> bool
+/// Whether the options are refused, whatever the rows: a number of rows in a group outside 1 to 16,777,216, pages of no rows, a
+/// version other than 1 and 2.
+pub fn is_out_of_range(options: &WriteOptions) -> bool
     ensures within { result ≡ false → IsOutOfRange options.now → ⊥ }
     ensures out { result ≡ true → IsOutOfRange options.now }
 {

@@ -1,17 +1,16 @@
 //! The record of a file that is written.
 
-ghost use Rattle.std.specs.Prelude.{◌≡◌, ◌<◌, ◌^◌, map, replicate, IfOk, OnOk};
+ghost use Rattle.std.specs.Prelude.{◌≡◌, ◌<◌, ◌^◌, map, IfOk, OnOk};
 ghost use Rattle.bits.specs.Refusals.{RefusedMemoryOnly};
 ghost use Rattle.schema.specs.Law.{IsWithinLimits};
 ghost use Rattle.schema.specs.Listed.{elements_of};
 ghost use Rattle.schema.specs.Listing.{IsSchemaOf, IsTooLarge};
 ghost use Rattle.metadata.specs.Kept.{EachKeepsWritten};
-ghost use Rattle.metadata.specs.Records.{type_order};
-ghost use Rattle.metadata.specs.Views.{group_meta_view, column_order_view, file_meta_view};
+ghost use Rattle.metadata.specs.Views.{group_meta_view, file_meta_view};
 ghost use Rattle.footer.specs.Own.{own_record};
 
 use bits::R;
-use metadata::{ColumnOrder, FileMeta, GroupMeta};
+use metadata::{FileMeta, GroupMeta, type_orders};
 use schema::{Schema, a_schema_is_its_elements, copied_elements};
 use std::alloc::Global;
 
@@ -50,16 +49,4 @@ pub fn record_of(
         created_by: Some(created_by),
         column_orders: Some(column_orders),
     })
-}
-
-/// The order of its type, for each of this many columns.
-fn type_orders(alloc: Global, columns: usize) -> R<Vec<ColumnOrder>>
-    ensures orders_are { IfOk result (λ orders. map column_order_view orders.items ≡ replicate columns type_order) }
-    ensures which { RefusedMemoryOnly result }
-{
-    let mut orders = Vec::with_capacity(alloc, columns)?;
-    for _ in 0..columns {
-        orders.push(ColumnOrder::TypeOrder)?;
-    }
-    Ok(orders)
 }

@@ -22,10 +22,10 @@ mod rows;
 
 pub use file_reader::{FileReader, read_file};
 pub use file_writer::FileWriter;
-pub use file_writing::write_file;
+pub use file_writing::{is_out_of_range, write_file};
 pub use footer_reading::read_footer;
 pub use footer_writing::{close_file, with_footer};
 pub use laws::{chunks_have_the_dictionaries_asked_for, one_list_of_first_rows, one_list_of_rows};
-pub use limits::{MAGIC, MOST_BYTES_OF_FILE, MOST_BYTES_OF_FOOTER};
+pub use limits::{MAGIC, MOST_BYTES_OF_FILE, MOST_BYTES_OF_FOOTER, MOST_GROUP_ROWS};
 pub use options::WriteOptions;
 pub use rows::Rows;

@@ -8,3 +8,6 @@ pub const MOST_BYTES_OF_FILE: usize = 2_147_483_647;
 
 /// The most bytes that a footer may have: 16 MiB.
 pub const MOST_BYTES_OF_FOOTER: usize = 16_777_216;
+
+/// The most rows that a written group may have.
+pub const MOST_GROUP_ROWS: u32 = 16_777_216;

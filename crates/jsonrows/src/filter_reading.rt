@@ -1,7 +1,6 @@
 //! The terms of a filter that a text is.
 
-ghost use Rattle.std.specs.Prelude.{◌≡◌, ◌↔◌, Ok, Err, map, option_map, IfOk, IfErr, IsTrue, string_bytes};
-ghost use Rattle.std.specs.Rc.{rc_str_bytes};
+ghost use Rattle.std.specs.Prelude.{◌≡◌, Ok, Err, map, option_map, IfOk, IfErr, string_bytes};
 ghost use Rattle.bits.specs.Refusals.{RefusedOnly};
 ghost use Rattle.bits.specs.declared.refusal.Refusal.TheVariants.{RowShape};
 ghost use Rattle.serde_json.specs.View.{view};
@@ -17,12 +16,11 @@ ghost use Rattle.jsonrows.specs.Filters.{by_kind, or_fault, single_value_as, val
 ghost use Rattle.jsonrows.specs.Filters.{IsFilterText, IsFilterTextAs, IsRefusedFilter, IsRefusedFilterAs};
 
 use bits::{R, Refusal};
-use filter::{Op, Term};
+use filter::{Op, Term, is_path};
 use rowtext::{form_if, json_of, leaf_from_as};
 use schema::{Kind, Leaf, LeafType, Schema, Value};
 use serde_json::Value as Json;
 use std::alloc::Global;
-use std::rc::RcStr;
 
 /// The operators, by their words.
 const OPERATORS: [(&str, Op); 9] = [
@@ -130,28 +128,6 @@ fn column_of(alloc: Global, json: &Json) -> R<Vec<String>>
         Json::Array(items) => names_from(alloc, items.as_slice()),
         _ => Err(Refusal::Script),
     }
-}
-
-/// Whether the two names are the same.
-fn is_name(one: &RcStr, other: &String) -> bool
-    ensures { IsTrue result ↔ (rc_str_bytes one.now ≡ string_bytes other.now) }
-{
-    one.as_str() == other.as_str()
-}
-
-/// Whether a path has these names.
-fn is_path(path: &[RcStr], names: &[String]) -> bool
-    ensures { IsTrue result ↔ (map rc_str_bytes path.now ≡ names_of names.now) }
-{
-    if path.len() != names.len() {
-        return false;
-    }
-    for (i, name) in names.iter().enumerate() {
-        if !is_name(&path[i], name) {
-            return false;
-        }
-    }
-    true
 }
 
 /// The type of the leaf with these names on the path to it.

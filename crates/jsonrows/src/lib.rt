@@ -31,5 +31,5 @@ pub use rowtext::{
     Reader, RowPlan, RowText, row_from, row_from_as, row_to, rows_read_back, rows_read_back_as,
 };
 pub use schema_printing::schema_to;
-pub use schema_reading::schema_from;
+pub use schema_reading::{GROUP_MEMBERS, LEAF_MEMBERS, schema_from};
 pub use script_reader::ScriptReader;

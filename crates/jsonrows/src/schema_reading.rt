@@ -6,7 +6,7 @@ ghost use Rattle.bits.specs.declared.refusal.Refusal.TheVariants.{Script};
 ghost use Rattle.serde_json.specs.Data.{depth};
 ghost use Rattle.serde_json.specs.View.{view, items_view};
 ghost use Rattle.schema.specs.Shape.{Fields};
-ghost use Rattle.schema.specs.Elements.{Element as Listed, element_view, elements_view};
+ghost use Rattle.schema.specs.Elements.{Element as Listed, elements_view};
 ghost use Rattle.jsonrows.specs.SchemaJson.{has_only, SaysColumn, IsSchemaText, IsRefusedSchema};
 ghost use Rattle.jsonrows.specs.inner.SchemaReading.{length_of, numbers_of, leaf_said, said_of_group, group_said, field_said, fields_said, said_below, all_said};
 ghost use Rattle.jsonrows.specs.inner.SchemaViews.{said_view, saids, Says};
@@ -46,7 +46,8 @@ const FIXED: i32 = 7;
 /// ConvertedType of groups, by its words.
 const GROUP_NOTES: [(&str, i32); 3] = [("map", 1), ("map_key_value", 2), ("list", 3)];
 
-const LEAF_MEMBERS: [&str; 9] = [
+/// The members that a leaf's description may have.
+pub const LEAF_MEMBERS: [&str; 9] = [
     "name",
     "rep",
     "type",
@@ -58,7 +59,8 @@ const LEAF_MEMBERS: [&str; 9] = [
     "logical",
 ];
 
-const GROUP_MEMBERS: [&str; 4] = ["name", "rep", "fields", "note"];
+/// The members that a group's description may have.
+pub const GROUP_MEMBERS: [&str; 4] = ["name", "rep", "fields", "note"];
 
 /// The numbers of a leaf.
 #[derive(Clone, Copy)]

@@ -15,13 +15,10 @@ ghost use Rattle.jsonrows.specs.inner.ValueJson.{IsShownSo, IsMisfit};
 
 use bits::{R, Refusal};
 use leaftext::{Form, form_bytes_text, form_text};
-use rowtext::form_if;
+use rowtext::{NUMBERS_OF_INT32, form_if};
 use schema::{Field, Kind, LeafType, Order, Repetition, Value};
 use serde_json::{Map, Value as Json};
-use std::alloc::{AllocError, Global};
-
-/// How many numbers have 32 bits.
-const NUMBERS_OF_INT32: u64 = 4_294_967_296;
+use std::alloc::Global;
 
 /// A number of a leaf: unsigned where the leaf's order is.
 fn number_json(leaf_type: &LeafType, number: i64) -> Json

@@ -1,5 +1,5 @@
 -- Numbers and tests on them.
-use Rattle.std.proofs.Common.{eq-eqb, nat_eq, refl, true, ℕ, ◌≡◌, ◌<◌, arith, false, Bool, eqb-true, suc, ◌||◌, ◌≤◌, ◌==◌, if◌then◌else◌, ◌*◌, ◌+◌, ◌^◌, ap, pow-add, pow-suc, sym, zero, ◌∙◌, FitsSigned, w16, w32, ℤ}
+use Rattle.std.proofs.Common.{eq-eqb, nat_eq, refl, true, ℕ, ◌≡◌, ◌<◌, arith, false, Bool, eqb-true, suc, ◌||◌, ◌≤◌, ◌==◌, if◌then◌else◌, FitsSigned, w16, w32, ℤ}
 use Rattle.std.proofs.lemmas.Bool.Decides.{nat_tests, Decides-eqb}
 
 -- a number is equal to itself, as a test
@@ -30,17 +30,6 @@ eq_from_same k m h = (Decides-eqb k m).1 h
 pub if_at_most : (b : Bool) (x y most : ℕ) → x ≤ most → y ≤ most → (if b then x else y) ≤ most
 if_at_most true x y most h g = h
 if_at_most false x y most h g = g
-
--- a power of 128 is one of 2
-pub powers_of_128 : (k : ℕ) → 128 ^ k ≡ 2 ^ (7 * k)
-powers_of_128 zero = refl
-powers_of_128 (suc k) =
-    let e : 7 * suc k ≡ 7 * k + 7 = omega arith in
-    pow-suc 128 k ∙ ap (λ (n : ℕ). n * 128) (powers_of_128 k) ∙ sym (ap (λ (n : ℕ). 2 ^ n) e ∙ pow-add 2 (7 * k) 7)
-
--- seven more bits
-pub seven_more : (k : ℕ) → 2 ^ (7 * suc k) ≡ 128 * 2 ^ (7 * k)
-seven_more k = ap (λ (j : ℕ). 2 ^ j) (let e : 7 * suc k ≡ 7 + 7 * k = omega arith in e) ∙ pow-add 2 7 (7 * k)
 
 -- what fits in 16 bits fits in 32
 pub fits_wider : (z : ℤ) → FitsSigned w16 z → FitsSigned w32 z

@@ -79,6 +79,10 @@ groups_stay : (keys : List KeyColumn) (stored : Fields) (f : Field) (gs : List G
 groups_stay keys stored f [] o h = tt
 groups_stay keys stored f (g ∷ gs) o h = (group_stays keys stored f g o h.0, groups_stay keys stored f gs o h.1)
 
+-- the groups of a table can be in it when it has a further field
+pub grown_groups : (keys : List KeyColumn) (fs : Fields) (f : Field) (gs : List Group) → AreKeys keys fs → repetition_of f ≡ Optional → AllByRecursion (IsGroup keys (without_keys keys fs)) gs → AllByRecursion (IsGroup keys (without_keys keys (with_field fs f))) gs
+grown_groups keys fs f gs k o h = subst (λ (own : Fields). AllByRecursion (IsGroup keys own) gs) (sym (without_keys_grows keys fs f k)) (groups_stay keys (without_keys keys fs) f gs o h)
+
 pub grown_roots_are_described : GrownRootsAreDescribed
 grown_roots_are_described root f d o valid within =
     let gone = is_among (places_of root.keys) in
@@ -96,7 +100,7 @@ grown_roots_are_described root f d o valid within =
         valid_besides gone 0 (with_field root.schema f) valid.1,
       );
       fits = d.fits;
-      each = subst (λ (fs : Fields). AllByRecursion (IsGroup root.keys fs) root.groups) (sym same) (groups_stay root.keys (stored_of root) f root.groups o d.each);
+      each = grown_groups root.keys root.schema f root.groups d.keys o d.each;
       in_order = d.in_order;
       distinct = d.distinct;
       below = d.below;

@@ -66,7 +66,7 @@ same_statistics one leaf m s t h k =
     let high = same_bound one leaf.leaf_type.kind h.given.max_value s.max t.max h.max (subst (λ (x : StatisticsRecord). IsBoundAt leaf.leaf_type.kind x.max_value t.max) (sym same) k.max) in
     λ i. record { min = low i; max = high i; nulls = nulls i }
 
-same_known : BoundsAreOne → (leaves : List Leaf) (cs : List ChunkMeta) (ss ts : List Statistics) → AreChunkRecords leaves cs ss → AreChunkRecords leaves cs ts → ss ≡ ts
+pub same_known : BoundsAreOne → (leaves : List Leaf) (cs : List ChunkMeta) (ss ts : List Statistics) → AreChunkRecords leaves cs ss → AreChunkRecords leaves cs ts → ss ≡ ts
 same_known one [] [] [] [] h k = refl
 same_known one (l ∷ ls) (c ∷ cs) (s ∷ ss) (t ∷ ts) h k = λ i. same_statistics one l c.meta_data s t h.0.statistics k.0.statistics i ∷ same_known one ls cs ss ts h.1 k.1 i
 same_known one [] [] [] (t ∷ ts) h k = absurd k

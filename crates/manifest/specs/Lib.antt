@@ -4,6 +4,7 @@ pub mod Handles
 pub mod Ordered
 pub mod Groups
 pub mod Records
+pub mod OneProof
 pub mod Root
 pub mod Faults
 pub mod Laid

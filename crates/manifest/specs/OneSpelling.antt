@@ -36,7 +36,8 @@ four a b c d p q = λ i. (a p.0 q.0 i, b p.1 q.1 i, c p.2 q.2 i, d p.3 q.3 i)
 six : {A B C D E F : Type 0} → IsProp A → IsProp B → IsProp C → IsProp D → IsProp E → IsProp F → IsProp (A × B × C × D × E × F)
 six a b c d e f p q = λ i. (a p.0 q.0 i, b p.1 q.1 i, c p.2 q.2 i, d p.3 q.3 i, e p.4 q.4 i, f p.5 q.5 i)
 
-two : (A : ℕ → Type 0) (B C : ℕ → ℕ → Type 0) → ((u : ℕ) → IsProp (A u)) → ((u v : ℕ) → IsProp (B u v)) → ((u v : ℕ) → IsProp (C u v)) → ((u v : ℕ) → A u → A v → u ≡ v) → ((t u v : ℕ) → B t u → B t v → u ≡ v)
+-- two numbers, one after the other, of each of which there is one
+pub two : (A : ℕ → Type 0) (B C : ℕ → ℕ → Type 0) → ((u : ℕ) → IsProp (A u)) → ((u v : ℕ) → IsProp (B u v)) → ((u v : ℕ) → IsProp (C u v)) → ((u v : ℕ) → A u → A v → u ≡ v) → ((t u v : ℕ) → B t u → B t v → u ≡ v)
     → IsProp ((u v : ℕ) × A u × B u v × C u v)
 two A B C a b c one other p q = ap from (nested (p.0, (p.1, (p.2, p.3, p.4))) (q.0, (q.1, (q.2, q.3, q.4))))
   where

@@ -13,7 +13,7 @@ use Rattle.statistics.specs.Bytes.{IsBoundAt}
 use Rattle.partition.specs.Folders.{CanPartition, part_path_of}
 use Rattle.schema.specs.Fronts.{first_fields, IsFront}
 pub use Rattle.manifest.specs.KeptChunks.{placed}
-use Rattle.manifest.specs.Groups.{Group}
+use Rattle.manifest.specs.Handles.{Group}
 
 -- the statistics that the record of a chunk of this leaf has: the nulls are counted, and each bound that is there is a
 -- value of the leaf's type

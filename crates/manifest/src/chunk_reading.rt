@@ -19,16 +19,16 @@ use footer::MOST_BYTES_OF_FILE;
 use metadata::{ChunkMeta, ColumnMeta, Statistics};
 use row_group::{check_record, start_of};
 use schema::{Kind, Leaf};
-use statistics::Stats;
+use statistics::{MOST_BYTES_OF_BOUND, Stats};
 use std::alloc::Global;
 
-/// The most bytes of a bound, the most encodings of a chunk, the most names on a path, and the most bytes of a name.
-const MOST_BYTES_OF_BOUND: usize = 64;
-
+/// The most encodings of a chunk.
 const MOST_ENCODINGS: usize = 10;
 
+/// The most names on a path.
 const MOST_NAMES: usize = 32;
 
+/// The most bytes of a name.
 pub(crate) const MOST_BYTES_OF_NAME: usize = 4_294_967_295;
 
 /// The statistics that the record of a chunk in a root says, whatever file it names.

@@ -8,6 +8,8 @@ ghost use Rattle.schema.specs.Keys.{AreKeys, AreDistinct, key_columns_view, with
 ghost use Rattle.partition.specs.Order.{AreInTableOrder};
 ghost use Rattle.manifest.specs.Handles.{Group, groups_of_blocks};
 ghost use Rattle.manifest.specs.Ordered.{Keys-prop, InTableOrder-prop, Distinct-prop, Below-prop};
+ghost use Rattle.manifest.specs.Records.{IsGroup};
+ghost use Rattle.manifest.specs.OneProof.{Groups-prop};
 
 use crate::handles::handle_of;
 use crate::laws::{a_laid_out_root_means_its_table, a_root_means_one_table};
@@ -21,7 +23,8 @@ use std::alloc::Global;
 use std::rc::Rc;
 
 /// What a root describes: the table's schema and its key columns, which can partition it, the next group number, and the
-/// groups in table order, none of which has the number of another, or one that is not below the next.
+/// groups in table order, each of which such a table can have, and none of which has the number of another, or one that is
+/// not below the next.
 #[derive(Debug, Drop)]
 pub struct Manifest {
     schema: Rc<Schema>,
@@ -34,11 +37,12 @@ pub struct Manifest {
     ghost in_order: { AreInTableOrder (map (λ (g : Group). g.key) (groups_of_blocks (rc_value groups.blocks).items)) } by { InTableOrder-prop (map (λ (g : Group). g.key) (groups_of_blocks (rc_value groups.blocks).items)) },
     ghost distinct: { AreDistinct (map (λ (g : Group). g.number) (groups_of_blocks (rc_value groups.blocks).items)) } by { Distinct-prop (map (λ (g : Group). g.number) (groups_of_blocks (rc_value groups.blocks).items)) },
     ghost below: { AllByRecursion (λ (g : Group). g.number < next) (groups_of_blocks (rc_value groups.blocks).items) } by { Below-prop next (groups_of_blocks (rc_value groups.blocks).items) },
+    ghost each: { AllByRecursion (IsGroup (key_columns_view (rc_value keys).items) (without_keys (key_columns_view (rc_value keys).items) (rc_value schema))) (groups_of_blocks (rc_value groups.blocks).items) } by { Groups-prop (key_columns_view (rc_value keys).items) (without_keys (key_columns_view (rc_value keys).items) (rc_value schema)) (groups_of_blocks (rc_value groups.blocks).items) },
 }
 
 impl Manifest {
     ghost use Rattle.manifest.specs.Groups.{Root, root_of, groups_in, keys_of, numbers_of};
-    ghost use Rattle.manifest.specs.Root.{RootMeans, IsDescription, stored_of};
+    ghost use Rattle.manifest.specs.Root.{RootMeans, IsDescription, CanHave, stored_of};
     ghost use Rattle.manifest.specs.Laid.{IsRootLaidOut, IsRootTooHeavy};
     ghost use Rattle.manifest.specs.Faults.{HasRootFault};
 
@@ -105,16 +109,18 @@ impl Manifest {
         ensures in_order { AreInTableOrder (keys_of (groups_in result.now)) }
         ensures distinct { AreDistinct (numbers_of (groups_in result.now)) }
         ensures below { AllByRecursion (λ (g : Group). g.number < (root_of self.now).next) (groups_in result.now) }
+        ensures each { CanHave (root_of self.now) (groups_in result.now) }
     {
         &self.groups
     }
 
-    /// This description with other groups, which stand in table order under numbers of their own, and this next number,
-    /// which is above them. Takes no memory; refused only where there are too many handles.
+    /// This description with other groups, which such a table can have and which stand in table order under numbers of their
+    /// own, and this next number, which is above them. Takes no memory; refused only where there are too many handles.
     pub fn with_groups(&self, groups: Version, next: u64) -> R<Manifest>
         requires in_order { AreInTableOrder (keys_of (groups_in groups)) }
         requires distinct { AreDistinct (numbers_of (groups_in groups)) }
         requires below { AllByRecursion (λ (g : Group). g.number < next) (groups_in groups) }
+        requires each { CanHave (root_of self.now) (groups_in groups) }
         ensures made { IfOk result (λ m. root_of m ≡ record (root_of self.now) { next = next; groups = groups_in groups }) }
         ensures which { RefusedMemoryOnly result }
     {
@@ -130,12 +136,13 @@ impl Manifest {
         })
     }
 
-    /// This description with another schema, in which the key columns are at the same places. The groups are shared:
-    /// each keeps the fields of its file.
+    /// This description with another schema, in which the key columns are at the same places, and whose table can have the
+    /// groups. They are shared: each keeps the fields of its file.
     ///
     /// Refused only for memory; time and room are linear in the schema.
     pub fn with_schema(&self, alloc: Global, schema: Schema) -> R<Manifest>
-        requires { AreKeys (root_of self.now).keys schema }
+        requires keyed { AreKeys (root_of self.now).keys schema }
+        requires each { AllByRecursion (IsGroup (root_of self.now).keys (without_keys (root_of self.now).keys schema)) (root_of self.now).groups }
         ensures made { IfOk result (λ m. root_of m ≡ record (root_of self.now) { schema = schema }) }
         ensures which { RefusedMemoryOnly result }
     {
@@ -153,17 +160,27 @@ impl Manifest {
         })
     }
 
+    /// For the proof: it can be described.
+    fn is_described(&self)
+        ensures { IsDescription (root_of self.now) }
+    {
+        let _ = self.schema.leaves();
+        let _ = self.stored.leaves();
+        let _next = self.next;
+    }
+
     /// The bytes of a root with this description: `PAR1`; the record, whose groups' chunks name their part files, with
     /// the keys and the next number as key-values; its length, and `PAR1`. (parquet.thrift, FileMetaData.)
     ///
     /// Refused Limit only where the footer weighs more than it may have. Time and room are linear in the chunks.
     pub fn to_bytes(&self, alloc: Global) -> R<Vec<u8>>
-        ensures means { IfOk result (λ bytes. IsDescription (root_of self.now) → RootMeans bytes.items (root_of self.now)) }
-        ensures laid_out { IfOk result (λ bytes. IsDescription (root_of self.now) → IsRootLaidOut bytes.items (root_of self.now)) }
-        ensures limit { result ≡ Err Refusal.Limit → IsDescription (root_of self.now) → IsRootTooHeavy (root_of self.now) }
+        ensures means { IfOk result (λ bytes. RootMeans bytes.items (root_of self.now)) }
+        ensures laid_out { IfOk result (λ bytes. IsRootLaidOut bytes.items (root_of self.now)) }
+        ensures limit { result ≡ Err Refusal.Limit → IsRootTooHeavy (root_of self.now) }
         ensures which { RefusedOnly (λ e. e ≡ Refusal.Limit) result }
     {
         a_laid_out_root_means_its_table();
+        self.is_described();
         root_to_bytes(
             alloc,
             &self.stored,

@@ -10,6 +10,7 @@ mod builder;
 mod chunk_reading;
 mod chunk_records;
 mod description;
+mod fitting;
 mod fronts;
 mod group;
 mod group_reading;

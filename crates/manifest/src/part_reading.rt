@@ -102,7 +102,7 @@ fn own_group(record: &FileMeta) -> Option<&GroupMeta>
 }
 
 /// What the records of a file's own chunks say of its columns, of which these are the leaves.
-fn known_of(alloc: Global, leaves: &[Leaf], chunks: &[ChunkMeta]) -> R<Vec<Stats>>
+pub(crate) fn known_of(alloc: Global, leaves: &[Leaf], chunks: &[ChunkMeta]) -> R<Vec<Stats>>
     ensures stands { IfOk result (λ known. AreChunkRecords (map leaf_view leaves.now) (map chunk_meta_view chunks.now) (map statistics_of known.items)) }
     ensures only { IfErr result (λ e. (e ≡ Memory → ⊥) → (known : List StatisticsShown) → AreChunkRecords (map leaf_view leaves.now) (map chunk_meta_view chunks.now) known → ⊥) }
 {

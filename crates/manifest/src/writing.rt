@@ -1,16 +1,16 @@
 //! From what a root describes to its bytes.
 
-ghost use Rattle.std.specs.Prelude.{◌≡◌, ◌<◌, ◌^◌, ℕ, List, Some, [], ◌∷◌, length, map, replicate, sum_by, codes, IfOk, OnOk, Err};
+ghost use Rattle.std.specs.Prelude.{◌≡◌, ◌<◌, ◌^◌, ℕ, List, Some, [], ◌∷◌, length, map, sum_by, codes, IfOk, OnOk, Err};
 ghost use Rattle.std.specs.List.{AllByRecursion};
 ghost use Rattle.std.specs.Fmt.{decimal};
 ghost use Rattle.serde_json.specs.Written.{compact_text};
 ghost use Rattle.bits.specs.Refusals.{RefusedOnly, RefusedMemoryOnly};
 ghost use Rattle.schema.specs.Keys.{key_columns_view};
-ghost use Rattle.metadata.specs.Records.{GroupMeta as GroupMetaShown, type_order};
+ghost use Rattle.metadata.specs.Records.{GroupMeta as GroupMetaShown};
 ghost use Rattle.metadata.specs.Kept.{EachKeepsWritten};
 ghost use Rattle.metadata.specs.Begun.{BeginsFooter};
 ghost use Rattle.metadata.specs.ToTree.{file_meta_fields};
-ghost use Rattle.metadata.specs.Views.{key_value_view, column_order_view, file_meta_view};
+ghost use Rattle.metadata.specs.Views.{key_value_view, file_meta_view};
 ghost use Rattle.thrift_compact.specs.Length.{AppendsStruct};
 ghost use Rattle.footer.specs.File.{magic};
 ghost use Rattle.partition.specs.Folders.{CanPartition};
@@ -26,7 +26,7 @@ use crate::pairs::{KEYS, NEXT, next_to_text};
 use crate::version::Version;
 use bits::{R, Refusal};
 use footer::{MAGIC, close_file};
-use metadata::{ColumnOrder, FileMeta, KeyValue};
+use metadata::{FileMeta, KeyValue, type_orders};
 use schema::{KeyColumn, Schema, copied_elements};
 use std::alloc::Global;
 use std::rc::Rc;
@@ -166,16 +166,4 @@ fn rows_in(groups: &[Rc<Group>]) -> u64
         sum = sum.saturating_add(group.rows());
     }
     sum
-}
-
-/// The order of its type, for each of so many columns.
-fn type_orders(alloc: Global, columns: usize) -> R<Vec<ColumnOrder>>
-    ensures orders_are { IfOk result (λ orders. map column_order_view orders.items ≡ replicate columns type_order) }
-    ensures which { RefusedMemoryOnly result }
-{
-    let mut orders = Vec::with_capacity(alloc, columns)?;
-    for _ in 0..columns {
-        orders.push(ColumnOrder::TypeOrder)?;
-    }
-    Ok(orders)
 }

@@ -17,14 +17,11 @@ use crate::cursor::Cursor;
 use crate::hex_digits::are_digits;
 use crate::piece_list::Pieces;
 use crate::pieces::Piece;
-use crate::scalars::form_if;
+use crate::scalars::{NUMBERS_OF_INT32, form_if};
 use crate::unread::Unread;
 use json::Scratch;
 use leaftext::{Form, form_read};
 use schema::{Kind, LeafType, Order, Value};
-
-/// How many numbers have 32 bits.
-const NUMBERS_OF_INT32: u64 = 4_294_967_296;
 
 /// Reads a value of a leaf, its repetition aside, with texts or without.
 pub fn leaf_at<'t>(

@@ -50,4 +50,4 @@ pub use row_reading::{
     bytes_of_digits, leaf_from, leaf_from_as, members_from, members_from_as, row_from, row_from_as,
 };
 pub use row_text::RowText;
-pub use scalars::form_if;
+pub use scalars::{NUMBERS_OF_INT32, form_if};

@@ -14,16 +14,13 @@ ghost use Rattle.leaftext.specs.declared.leaf_form.Form.{Form as FormOf};
 ghost use Rattle.rowtext.specs.Reading.{digits_read, hex_read, text_read_as, number_read, bytes_of_digits, bytes_read, scalar_read, leaf_read, leaf_read_as, leaf_read_by, read_as, items_read, inside_read_as, field_read_as, members_read, members_read_as, row_of, row_of_as, line_of};
 
 use crate::json_text::json_of;
-use crate::scalars::form_if;
+use crate::scalars::{NUMBERS_OF_INT32, form_if};
 use bits::{R, Refusal};
 use hex::FromHexError;
 use leaftext::{Form, form_bytes_read, form_read};
 use schema::{Field, Kind, LeafType, Order, Repetition, Row, Schema, Value};
 use serde_json::{Map, Number, Value as Json};
 use std::alloc::{AllocError, Global};
-
-/// How many numbers have 32 bits.
-const NUMBERS_OF_INT32: u64 = 4_294_967_296;
 
 /// The integer of a leaf that a number is: where the leaf's order is unsigned, the one of the same bits.
 fn number_from(leaf_type: &LeafType, number: &Number) -> Option<i64>

@@ -18,7 +18,7 @@ use schema::{Kind, LeafType, Order};
 use std::alloc::AllocError;
 
 /// How many numbers have 32 bits.
-const NUMBERS_OF_INT32: u64 = 4_294_967_296;
+pub const NUMBERS_OF_INT32: u64 = 4_294_967_296;
 
 /// Room for a sign and 20 digits, and 32 bytes by which they are moved.
 pub const NUMBER_ROOM: usize = 53;

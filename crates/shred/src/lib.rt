@@ -20,5 +20,5 @@ mod single;
 mod slot;
 
 pub use column::{ColumnRef, to_columns};
-pub use row_buffer::RowBuffer;
+pub use row_buffer::{MOST_ROWS, RowBuffer};
 pub use rows::shred;

@@ -19,7 +19,7 @@ use schema::{EntryRef, Kind, Row, Schema, ValueRef};
 use std::alloc::{AllocError, Global};
 
 /// The most rows that a buffer takes: more than there can be.
-const MOST_ROWS: usize = 1 << 62;
+pub const MOST_ROWS: usize = 1 << 62;
 
 /// Rows, kept as the columns that they shred to. A row takes as much room as its entries and the bytes of
 /// its values.

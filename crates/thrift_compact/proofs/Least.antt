@@ -4,7 +4,8 @@ use Rattle.std.specs.Prelude.{ℤ, pos, ◌-ℤ◌, nat_le, true}
 use Rattle.std.proofs.lemmas.List.{length-append}
 use Rattle.std.proofs.lemmas.Bool.Decides.{nat_tests}
 use Rattle.std.proofs.lemmas.Int.{ints}
-use Rattle.lists.proofs.Numbers.{powers_of_128 as powers, if_at_most}
+use Rattle.lists.proofs.Numbers.{if_at_most}
+use Rattle.bits.proofs.Sevens.{powers_of_128 as powers}
 use Rattle.bits.specs.Codec.{Appends}
 use Rattle.bits.specs.Varint.{IsUleb, zigzag_of}
 use Rattle.bits.proofs.Varints.{groups_below}

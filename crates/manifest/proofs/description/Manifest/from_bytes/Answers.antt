@@ -10,7 +10,8 @@ use Rattle.schema.specs.Keys.{AreKeys, AreDistinct, key_columns_view, without_ke
 use Rattle.partition.specs.Order.{AreInTableOrder}
 use Rattle.schema.specs.declared.key.KeyColumn.{KeyColumn as CodeKeyColumn}
 use Rattle.manifest.specs.Groups.{Group, Root, groups_in, handles_view, keys_of, numbers_of}
-use Rattle.manifest.specs.Root.{RootMeans}
+use Rattle.manifest.specs.Records.{IsGroup}
+use Rattle.manifest.specs.Root.{RootMeans, stored_of}
 use Rattle.manifest.specs.Faults.{HasRootFault}
 use Rattle.manifest.specs.inner.Heads.{root_in}
 use Rattle.manifest.proofs.OnlyRoot.{memory_only, memory_cause}
@@ -66,4 +67,7 @@ invariant_of-result c =
       in_order = subst (λ (gs : List Group). AreInTableOrder (keys_of gs)) (sym groups) described.in_order;
       distinct = subst (λ (gs : List Group). AreDistinct (numbers_of gs)) (sym groups) described.distinct;
       below = subst (λ (gs : List Group). AllByRecursion (λ (g : Group). g.number < read.next) gs) (sym groups) described.below;
+      each = subst (λ (fs : Fields). AllByRecursion (IsGroup (key_columns_view (rc_value c.in_ok-keys.keys).items) (without_keys (key_columns_view (rc_value c.in_ok-keys.keys).items) fs)) (groups_in c.in_ok-groups.groups)) schema
+          (subst (λ (ks : List CodeKeyColumn). AllByRecursion (IsGroup (key_columns_view ks) (without_keys (key_columns_view ks) read.schema)) (groups_in c.in_ok-groups.groups)) keys
+          (subst (λ (gs : List Group). AllByRecursion (IsGroup read.keys (stored_of read)) gs) (sym groups) described.each));
     }

@@ -7,6 +7,7 @@ use Rattle.schema.specs.Keys.{AreKeys, AreDistinct, key_columns_view, without_ke
 use Rattle.schema.specs.declared.key.KeyColumn.{KeyColumn as CodeKeyColumn}
 use Rattle.partition.specs.Order.{AreInTableOrder}
 use Rattle.manifest.specs.Groups.{Group, keys_of, numbers_of}
+use Rattle.manifest.specs.Records.{IsGroup}
 use Rattle.manifest.proofs.description.Manifest.new.Goals as goal
 
 pub invariant_of-result : goal.invariant_of-result
@@ -21,4 +22,5 @@ invariant_of-result c =
       in_order = subst (λ (gs : List Group). AreInTableOrder (keys_of gs)) none tt;
       distinct = subst (λ (gs : List Group). AreDistinct (numbers_of gs)) none tt;
       below = subst (λ (gs : List Group). AllByRecursion (λ (g : Group). g.number < 0) gs) none tt;
+      each = subst (λ (gs : List Group). AllByRecursion (IsGroup (key_columns_view (rc_value c.in_ok-keys.keys).items) (without_keys (key_columns_view (rc_value c.in_ok-keys.keys).items) (rc_value c.in_ok-schema.schema))) gs) none tt;
     }
