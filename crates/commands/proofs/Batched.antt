@@ -13,7 +13,7 @@ use Rattle.table.specs.Deciding.{Filter}
 use Rattle.table.specs.Cursors.{Batch, Columns, batches}
 use Rattle.table.specs.State.{State}
 use Rattle.table.specs.Calls.{Call, query, fetch, close, Answer, cursor, batch, ended}
-use Rattle.table.specs.Refusing.{Run}
+use Rattle.table.specs.Refusing.{Run, first_call}
 use Rattle.table.specs.Queries.{given, given_by, leaves_open, QueriesGiveABeginning, FinishedQueriesGiveAll}
 use Rattle.table_state.specs.declared.standing.Core.{Core}
 use Rattle.table_state.specs.Stands.{Stands}
@@ -191,11 +191,11 @@ module _ {D : Type 0} (state : D → DiskState) where
           by : ((calls ≡ all.front ++ fetch n ∷ []) × (answers ≡ all.told ++ ended ∷ [])) ⊎ ((calls ≡ all.front) × (answers ≡ all.told) × WhereFitting fs (AreEnough limit) bs) → Has (first_of limit (rows_of_each whole))
           by (inl over) =
               let run = subst (λ (cs : List Call). Run acts.after cs (all.told ++ ended ∷ []) last) over.0 (subst (λ (xs : List Answer). Run acts.after calls xs last) over.1 later) in
-              let are : bs ≡ whole = finished s terms columns n all.front all.told last stands.reached all.as_many (acts.after, acts.happens, run) opened in
+              let are : bs ≡ whole = finished s terms columns n all.front all.told last stands.reached all.as_many (first_call acts.happens run) opened in
               subst (λ (xs : List Batch). WhereFitting fs (λ (rows : List ValueTrees). Has (first_of limit rows)) xs) are all.done fits
           by (inr over) =
               let run = subst (λ (cs : List Call). Run acts.after cs all.told last) over.0 (subst (λ (xs : List Answer). Run acts.after calls xs last) over.1 later) in
-              let told = beginning s terms columns n all.front all.told last stands.reached (acts.after, acts.happens, run) opened in
+              let told = beginning s terms columns n all.front all.told last stands.reached (first_call acts.happens run) opened in
               let split : rows_of_each whole ≡ rows_of_each bs ++ rows_of_each told.0 = ap rows_of_each told.1 ∙ flat_map-append (λ (b : Batch). b.rows) bs told.0 in
               let front = front_fits fs (rows_of_each bs) (rows_of_each told.0) (subst (RowsFit fs) split fits) in
               let same : first_of limit (rows_of_each whole) ≡ first_of limit (rows_of_each bs) = ap (first_of limit) split ∙ first_enough limit (rows_of_each bs) (rows_of_each told.0) (over.2 front) in

@@ -1,9 +1,9 @@
 -- Calls that a store makes one after another.
-use Rattle.std.proofs.Common.{◌≡◌, List, [], ◌∷◌, ◌++◌, refl, subst}
+use Rattle.std.proofs.Common.{◌≡◌, List, [], ◌∷◌, ◌++◌, refl, sym, subst}
 use Rattle.disk.specs.State.{State as DiskState}
 use Rattle.table.specs.State.{State}
 use Rattle.table.specs.Calls.{Call, Answer}
-use Rattle.table.specs.Refusing.{Run}
+use Rattle.table.specs.Refusing.{Run, no_calls, first_call}
 use Rattle.table_state.specs.declared.standing.Core.{Core}
 use Rattle.table_state.specs.Promises.{ActsFrom}
 use Rattle.commands.specs.Querying.{ActsOn}
@@ -31,7 +31,7 @@ module _ {D : Type 0} (state : D → DiskState) where
 
   -- they are a history
   pub history : (old new : Core D) (calls : List Call) (answers : List Answer) (s last : State) → ActsOn state old calls answers new s last → Run s calls answers last
-  history old new [] [] s last made = made.1
-  history old new (call ∷ calls) (answer ∷ answers) s last made = (made.1.after, made.1.happens, history made.0 new calls answers made.1.after last made.2)
+  history old new [] [] s last made = subst (λ (t : State). Run s [] [] t) (sym made.1) no_calls
+  history old new (call ∷ calls) (answer ∷ answers) s last made = first_call made.1.happens (history made.0 new calls answers made.1.after last made.2)
   history old new [] (answer ∷ answers) s last made = absurd made
   history old new (call ∷ calls) [] s last made = absurd made

@@ -6,6 +6,7 @@ use Rattle.footer.specs.Writing.{IsOutOfRange, empty_groups, large_groups, empty
 use Rattle.disk.specs.State.{State as DiskState}
 use Rattle.table.specs.Table.{Table}
 use Rattle.table.specs.State.{opened}
+use Rattle.table.specs.Refusing.{no_calls}
 use Rattle.table_state.specs.declared.standing.Core.{Core}
 use Rattle.table_state.specs.Stands.{Stands}
 use Rattle.commands.specs.Kept.{IsRestyled, StaysOpened}
@@ -23,7 +24,7 @@ module _ {D : Type 0} (state : D → DiskState) where
   with_style store style o t stands =
       let shows = stands.shows in
       record {
-        reached = record { options = record o { style = style }; table = t; is_table = shows.valid; calls = []; answers = []; run = refl };
+        reached = record { options = record o { style = style }; table = t; is_table = shows.valid; calls = []; answers = []; run = no_calls };
         shows = record {
           valid = shows.valid;
           apart = shows.apart;

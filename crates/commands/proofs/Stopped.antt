@@ -5,16 +5,16 @@ use Rattle.lists.proofs.Slices.{map_take_next as taken}
 use Rattle.bits.specs.declared.refusal.Refusal.{Refusal}
 use Rattle.bits.specs.declared.refusal.Refusal.TheVariants.{Memory}
 use Rattle.disk.specs.State.{State as DiskState}
+use Rattle.table.specs.Table.{Table}
 use Rattle.table.specs.State.{State}
 use Rattle.table.specs.Calls.{Call, Answer}
 use Rattle.table.specs.Refusing.{Happens}
-use Rattle.table.specs.Stops.{Survives}
+use Rattle.table.specs.Stops.{Survives, RunsOn, no_calls, first_call}
 use Rattle.table.specs.Views.{call_view, answer_view}
 use Rattle.table.specs.declared.answer.Answer.{Answer as CodeAnswer}
 use Rattle.table.specs.declared.answer.Answer.TheVariants as told
 use Rattle.table.specs.declared.call.Call.{Call as CodeCall}
 use Rattle.table_state.specs.declared.standing.Core.{Core}
-use Rattle.table_state.specs.OnDisk.{HoldsTable}
 use Rattle.table_state.specs.Stands.{Stands}
 use Rattle.table_state.specs.Promises.{ActsFrom}
 use Rattle.store.specs.Running.{RunsFrom}
@@ -97,18 +97,27 @@ counted_calls calls made left joined = sym (calls.ok.0 ∙ (sym (length-map call
 parted : (calls : List CodeCall) (n : ℕ) → map call_view calls ≡ map call_view (take n calls) ++ map call_view (drop n calls)
 parted calls n = ap (map call_view) (sym (take-append-drop n calls)) ∙ map-append call_view (take n calls) (drop n calls)
 
+module _ {Image : Type 0} {images : ℕ → Image → Type 0} {holds : Image → Table → Type 0} {start finish : ℕ} {s t : State} {call : Call} where
+  -- a run of one call
+  only_call : {answer : Answer} → RunsOn images holds start s (call ∷ []) (answer ∷ []) finish t → Happens s call answer t × Survives images holds start finish s t
+  only_call (first_call happens survives no_calls) = (happens, survives)
+
+  -- it has one answer
+  not_two : {first second : Answer} {answers : List Answer} → RunsOn images holds start s (call ∷ []) (first ∷ second ∷ answers) finish t → ⊥
+  not_two (first_call happens survives run) = elim run [ ]
+
+  not_none : RunsOn images holds start s (call ∷ []) [] finish t → ⊥
+  not_none run = elim run [ ]
+
 module _ {D : Type 0} (state : D → DiskState) where
   -- a run of one call
   one_of : (old new : Core D) (call : Call) (answer : Answer) (s : State) → RunsFrom state old new (call ∷ []) (answer ∷ []) s → ActsFrom state old new call answer s
   one_of old new call answer s run =
-      let r = run.runs in
-      let images = (state new.vault.disk).images in
-      let start = (state old.vault.disk).moment in
-      let finish = (state new.vault.disk).moment in
+      let one = only_call run.runs in
       record {
         after = run.after;
-        happens = subst (λ (t : State). Happens s call answer t) (sym r.4.1) r.2;
-        survives = subst (λ (t : State). Survives images HoldsTable start finish s t) (sym r.4.1) (subst (λ (m : ℕ). Survives images HoldsTable start m s r.1) r.4.0 r.3);
+        happens = one.0;
+        survives = one.1;
         stands = run.stands;
         past = run.past;
         doubt = λ is. run.doubt (0, omega arith, is);
@@ -120,12 +129,12 @@ module _ {D : Type 0} (state : D → DiskState) where
     where
       by : (ys : List CodeAnswer) → RunsFrom state old new (call ∷ []) (map answer_view (ys ++ x ∷ [])) s → ActsFrom state old new call (answer_view x) s
       by [] one = one_of old new call (answer_view x) s one
-      by (y ∷ []) two = absurd two.runs.4
-      by (y ∷ z ∷ ys) many = absurd many.runs.4
+      by (y ∷ []) two = absurd (not_two two.runs)
+      by (y ∷ z ∷ ys) many = absurd (not_two many.runs)
 
   -- it has one
   pub one_answer : {A : Type 0} (old new : Core D) (call : Call) (all : List CodeAnswer) (s : State) → length all ≡ 0 → RunsFrom state old new (call ∷ []) (map answer_view all) s → A
-  one_answer old new call [] s none run = absurd run.runs
+  one_answer old new call [] s none run = absurd (not_none run.runs)
   one_answer old new call (x ∷ xs) s none run = absurd (omega (arith, none))
 
   -- none was made yet

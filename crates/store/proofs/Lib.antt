@@ -1,3 +1,4 @@
 pub mod RunJoins
 mod ReopeningLaws
 mod PrefixLaws
+mod GroupsTold

@@ -6,20 +6,20 @@ use Rattle.table.specs.Table.{Table}
 use Rattle.table.specs.State.{State}
 use Rattle.table.specs.Calls.{Call, Answer}
 use Rattle.table.specs.Refusing.{Happens}
-use Rattle.table.specs.Stops.{MayHold, Survives}
+use Rattle.table.specs.Stops.{MayHold, Survives, no_calls, first_call}
 use Rattle.table.proofs.Beginnings.{runs_are_histories}
 use Rattle.table.proofs.CommitsOf.{runs_are_of_commits}
 use Rattle.table_state.specs.OnDisk.{HoldsTable}
-use Rattle.store.specs.Prefixes.{LeavesThePrefix, StopsLeaveThePrefix, RunsLeaveThePrefix, RunsHappen}
+use Rattle.store.specs.Prefixes.{all_ended, one_goes_on, LeavesThePrefix, StopsLeaveThePrefix, RunsLeaveThePrefix, RunsHappen}
 
 module _ {Image : Type 0} (images : ℕ → Image → Type 0) (holds : Image → Table → Type 0) where
   -- what an image of the first moment has
   abbrev Begins : ℕ → State → Type 0
   Begins start old = (image : Image) → images start image → (table : Table) × holds image table × MayHold old table
 
-  one_more : (start : ℕ) (old : State) (call : Call) (calls : List Call) (answer : Answer) (answers : List Answer) (finish : ℕ) (new : State) (m : ℕ) (image : Image) (next : ℕ) (mid : State) → Happens old call answer mid
-      → Survives images holds start next old mid → LeavesThePrefix images holds next mid calls answers finish new m image → LeavesThePrefix images holds start old (call ∷ calls) (answer ∷ answers) finish new m image
-  one_more start old call calls answer answers finish new m image next mid happens survives l = record {
+  one_more : {start next finish m : ℕ} {old mid new : State} {call : Call} {answer : Answer} {calls : List Call} {answers : List Answer} {image : Image}
+      → Happens old call answer mid → Survives images holds start next old mid → LeavesThePrefix images holds next mid calls answers finish new m image → LeavesThePrefix images holds start old (call ∷ calls) (answer ∷ answers) finish new m image
+  one_more {call = call} {answer = answer} happens survives l = record {
     ended = call ∷ l.ended;
     later = l.later;
     calls_are = ap (λ (cs : List Call). call ∷ cs) l.calls_are;
@@ -29,15 +29,15 @@ module _ {Image : Type 0} (images : ℕ → Image → Type 0) (holds : Image →
     time = l.time;
     by_then = l.by_then;
     mid = l.mid;
-    runs = (next, mid, happens, survives, l.runs);
+    runs = first_call happens survives l.runs;
     table = l.table;
     held = l.held;
     left = l.left;
   }
 
   pub stops_leave_the_prefix : StopsLeaveThePrefix images holds
-  stops_leave_the_prefix start old [] [] finish new first run m image from to at =
-      let now : m ≡ start = omega (arith, from, to, run.0) in
+  stops_leave_the_prefix start old calls answers finish new first no_calls m image from to at =
+      let now : m ≡ start = omega (arith, from, to) in
       let h = first image (subst (λ (k : ℕ). images k image) now at) in
       record {
         ended = [];
@@ -49,42 +49,39 @@ module _ {Image : Type 0} (images : ℕ → Image → Type 0) (holds : Image →
         time = start;
         by_then = from;
         mid = old;
-        runs = (refl, refl);
+        runs = no_calls;
         table = h.0;
         held = h.1;
-        left = (h.2, run);
+        left = all_ended h.2;
       }
-  stops_leave_the_prefix start old [] (answer ∷ answers) finish new first run m image from to at = absurd run
-  stops_leave_the_prefix start old (call ∷ calls) [] finish new first run m image from to at = absurd run
-  stops_leave_the_prefix start old (call ∷ calls) (answer ∷ answers) finish new first run m image from to at =
+  stops_leave_the_prefix start old calls answers finish new first (first_call {next = next} {mid = after} {call = call} {answer = answer} {calls = later} {answers = untold} happens survives run) m image from to at =
       ⊎_elim
       (λ during. in_progress during)
-      (λ over.
-      one_more start old call calls answer answers finish new m image run.0 run.1 run.2 run.3
-      (stops_leave_the_prefix run.0 run.1 calls answers finish new run.3.ended run.4 m image over to at))
-      (cases_lt m run.0)
+      (λ over. one_more happens survives (stops_leave_the_prefix next after later untold finish new survives.ended run m image over to at))
+      (cases_lt m next)
     where
-      cut : m < run.0 → (table : Table) × holds image table × (MayHold old table ⊎ ((start < m) × MayHold run.1 table)) → LeavesThePrefix images holds start old (call ∷ calls) (answer ∷ answers) finish new m image
+      cut : m < next → (table : Table) × holds image table × (MayHold old table ⊎ ((start < m) × MayHold after table))
+          → LeavesThePrefix images holds start old (call ∷ later) (answer ∷ untold) finish new m image
       cut during h = record {
         ended = [];
-        later = call ∷ calls;
+        later = call ∷ later;
         calls_are = refl;
         told = [];
-        untold = answer ∷ answers;
+        untold = answer ∷ untold;
         answers_are = refl;
         time = start;
         by_then = from;
         mid = old;
-        runs = (refl, refl);
+        runs = no_calls;
         table = h.0;
         held = h.1;
-        left = (run.0, run.1, during, run.2, run.4, h.2);
+        left = one_goes_on during happens run h.2;
       }
 
-      in_progress : m < run.0 → LeavesThePrefix images holds start old (call ∷ calls) (answer ∷ answers) finish new m image
+      in_progress : m < next → LeavesThePrefix images holds start old (call ∷ later) (answer ∷ untold) finish new m image
       in_progress during = ⊎_elim
           (λ begun.
-          let h = run.3.each m image from (omega (arith, during)) at in
+          let h = survives.each m image from (omega (arith, during)) at in
           cut during (h.0, h.1, ⊎_elim (λ may. inl may) (λ may. inr (begun, may)) h.2))
           (λ still.
           let now : m ≡ start = omega (arith, from, still) in

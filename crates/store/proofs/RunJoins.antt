@@ -8,7 +8,7 @@ use Rattle.disk.specs.State.{State as DiskState}
 use Rattle.table.specs.State.{State}
 use Rattle.table.specs.Calls.{Call, Answer, refused}
 use Rattle.table.specs.Refusing.{Happens, is_failure}
-use Rattle.table.specs.Stops.{Survives, RunsOn}
+use Rattle.table.specs.Stops.{Survives, RunsOn, no_calls, first_call}
 use Rattle.table_state.specs.declared.standing.Core.{Core}
 use Rattle.table_state.specs.OnDisk.{HoldsTable}
 use Rattle.table_state.specs.Stands.{Stands}
@@ -25,28 +25,17 @@ survives_later mid new past start finish s t le h = record {
   ended = λ image left. h.ended image (past.history finish image le left);
 }
 
-ends_by : (disk : DiskState) (start : ℕ) (s : State) (calls : List Call) (answers : List Answer) (finish : ℕ) (t : State) → RunsOn disk.images HoldsTable start s calls answers finish t → start ≤ finish
-ends_by disk start s [] [] finish t run = omega (arith, run.0)
-ends_by disk start s (call ∷ calls) (answer ∷ answers) finish t run = omega (arith, run.3.later, ends_by disk run.0 run.1 calls answers finish t run.4)
-ends_by disk start s [] (answer ∷ answers) finish t run = absurd run
-ends_by disk start s (call ∷ calls) [] finish t run = absurd run
+ends_by : (disk : DiskState) {start finish : ℕ} {s t : State} {calls : List Call} {answers : List Answer}
+    → RunsOn disk.images HoldsTable start s calls answers finish t → start ≤ finish
+ends_by disk no_calls = omega arith
+ends_by disk (first_call happens survives run) = omega (arith, survives.later, ends_by disk run)
 
-pub goes_on : (mid new : DiskState) → KeepsPast mid new → (start : ℕ) (s : State) (calls : List Call) (answers : List Answer) (finish : ℕ) (t : State) → finish ≤ mid.moment
-    → RunsOn mid.images HoldsTable start s calls answers finish t → (call : Call) (answer : Answer) (u : State) → Happens t call answer u → Survives new.images HoldsTable finish new.moment t u
+pub goes_on : (mid new : DiskState) → KeepsPast mid new → (call : Call) (answer : Answer) (u : State) {start finish : ℕ} {s t : State} {calls : List Call} {answers : List Answer}
+    → finish ≤ mid.moment → RunsOn mid.images HoldsTable start s calls answers finish t → Happens t call answer u → Survives new.images HoldsTable finish new.moment t u
     → RunsOn new.images HoldsTable start s (calls ++ call ∷ []) (answers ++ answer ∷ []) new.moment u
-goes_on mid new past start s [] [] finish t le run call answer u happens survives =
-    let P : ℕ → State → Type 0 = λ begin first. (next : ℕ) × (last : State) × Happens first call answer last × Survives new.images HoldsTable begin next first last × ((next ≡ new.moment) × (u ≡ last)) in
-    let here : P finish t = (new.moment, u, happens, survives, (refl, refl)) in
-    subst (λ (f : State). P start f) run.1 (subst (λ (b : ℕ). P b t) (sym run.0) here)
-goes_on mid new past start s (c ∷ calls) (a ∷ answers) finish t le run call answer u happens survives = (
-  run.0,
-  run.1,
-  run.2,
-  survives_later mid new past start run.0 s run.1 (omega (arith, le, ends_by mid run.0 run.1 calls answers finish t run.4)) run.3,
-  goes_on mid new past run.0 run.1 calls answers finish t le run.4 call answer u happens survives,
-)
-goes_on mid new past start s [] (a ∷ answers) finish t le run call answer u happens survives = absurd run
-goes_on mid new past start s (c ∷ calls) [] finish t le run call answer u happens survives = absurd run
+goes_on mid new past call answer u le no_calls happens survives = first_call happens survives no_calls
+goes_on mid new past call answer u le (first_call first survived run) happens survives =
+    first_call first (survives_later mid new past _ _ _ _ (omega (arith, le, ends_by mid run)) survived) (goes_on mid new past call answer u le run happens survives)
 
 -- ---- failures are counted
 
@@ -61,13 +50,13 @@ one_by_one answers answer = ap length (filter-append is_failure answers (answer 
 
 module _ {D : Type 0} (state : D → DiskState) where
   pub nothing_yet : (store : Core D) (s : State) → Stands state store s → RunsFrom state store store [] [] s
-  nothing_yet store s stands = record { after = s; runs = (refl, refl); stands = stands; past = record { later = omega arith; history = λ m c l left. left; keeps = λ m c l left. left }; doubt = λ there. let none = there.1 in absurd (omega (arith, none)) }
+  nothing_yet store s stands = record { after = s; runs = no_calls; stands = stands; past = record { later = omega arith; history = λ m c l left. left; keeps = λ m c l left. left }; doubt = λ there. let none = there.1 in absurd (omega (arith, none)) }
 
   pub one_more : (old mid new : Core D) (calls : List Call) (answers : List Answer) (s : State) (run : RunsFrom state old mid calls answers s) (call : Call) (answer : Answer)
       → ActsFrom state mid new call answer run.after → RunsFrom state old new (calls ++ call ∷ []) (answers ++ answer ∷ []) s
   one_more old mid new calls answers s run call answer acts = record {
     after = acts.after;
-    runs = goes_on (state mid.vault.disk) (state new.vault.disk) acts.past (state old.vault.disk).moment s calls answers (state mid.vault.disk).moment run.after (omega arith) run.runs call answer acts.after acts.happens acts.survives;
+    runs = goes_on (state mid.vault.disk) (state new.vault.disk) acts.past call answer acts.after (omega arith) run.runs acts.happens acts.survives;
     stands = acts.stands;
     past = past_on (state old.vault.disk) (state mid.vault.disk) (state new.vault.disk) run.past acts.past;
     doubt = λ there. ⊎_elim
@@ -113,3 +102,18 @@ module _ {D : Type 0} (state : D → DiskState) where
       → Runs state old mid calls answers → HaveCauses state old mid answers → HasCause state mid new answer → HaveCauses state old new told
   causes_as old mid new calls answers told call answer f same grows runs causes cause =
       subst (λ (ys : List Answer). HaveCauses state old new ys) f (causes_on old mid new calls answers call answer same grows runs causes cause)
+
+-- ---- before the first call
+
+-- no list with an item is empty
+pub not_empty : {A : Type 0} (before : List A) (x : A) (later : List A) → [] ≡ before ++ x ∷ later → ⊥
+not_empty [] x later is = cc
+not_empty (b ∷ before) x later is = cc
+
+-- without an answer no call was made
+pub none_run : {D : Type 0} (state : D → DiskState) (store : Core D) (s : State) (answers : List Answer) → answers ≡ [] → Stands state store s → RunsFrom state store store [] answers s
+none_run state store s answers none stands = subst (λ (told : List Answer). RunsFrom state store store [] told s) (sym none) (nothing_yet state store s stands)
+
+-- and none tells of a failed disk
+pub none_failed : (disk : DiskState) (answers : List Answer) → answers ≡ [] → HasFailedTimes (length (filter is_failure answers)) disk disk
+none_failed disk answers none = subst (λ (told : List Answer). HasFailedTimes (length (filter is_failure told)) disk disk) (sym none) (inl (omega arith))

@@ -14,14 +14,17 @@ use Rattle.table_state.specs.Stands.{Stands}
 use Rattle.store.specs.Running.{RunsFrom}
 
 -- What of a run is left at a moment, from the state on that its ended calls led to at a time before, and which table an
--- image of the moment has. No call is left: it is the state's. Or the first that is left ends after the moment: it is the
--- state's, or, where that call has begun before the moment, the one that it leads to.
-abbrev pub IsLeftAt : {Image : Type 0} → (ℕ → Image → Type 0) → (Image → Table → Type 0) → ℕ → Table → ℕ → State → List Call → List Answer → ℕ → State → Type 0
-IsLeftAt images holds m table time mid [] [] finish new = MayHold mid table × RunsOn images holds time mid [] [] finish new
-IsLeftAt images holds m table time mid (call ∷ calls) (answer ∷ answers) finish new =
-    (next : ℕ) × (after : State) × (m < next) × Happens mid call answer after × RunsOn images holds next after calls answers finish new × (MayHold mid table ⊎ ((time < m) × MayHold after table))
-IsLeftAt images holds m table time mid [] (answer ∷ answers) finish new = ⊥
-IsLeftAt images holds m table time mid (call ∷ calls) [] finish new = ⊥
+-- image of the moment has.
+pub data IsLeftAt {Image : Type 0} (images : ℕ → Image → Type 0) (holds : Image → Table → Type 0) (m : ℕ) (table : Table)
+    (time : ℕ) (mid : State) : List Call → List Answer → ℕ → State → Type 0 where
+  -- no call is left: it is the state's
+  all_ended : MayHold mid table → IsLeftAt images holds m table time mid [] [] time mid
+  -- the first that is left ends after the moment: it is the state's, or, where that call has begun before the moment, the
+  -- one that it leads to
+  one_goes_on : {next finish : ℕ} {after new : State} {call : Call} {answer : Answer} {calls : List Call} {answers : List Answer}
+      → m < next → Happens mid call answer after → RunsOn images holds next after calls answers finish new
+      → MayHold mid table ⊎ ((time < m) × MayHold after table)
+      → IsLeftAt images holds m table time mid (call ∷ calls) (answer ∷ answers) finish new
 
 -- An image of a moment of a run, and the run parted there.
 pub record LeavesThePrefix {Image : Type 0} (images : ℕ → Image → Type 0) (holds : Image → Table → Type 0) (start : ℕ) (old : State) (calls : List Call) (answers : List Answer) (finish : ℕ) (new : State) (m : ℕ) (image : Image) : Type 0 where

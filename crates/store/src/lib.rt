@@ -16,7 +16,10 @@ mod run;
 mod store;
 
 pub use opening::{create, open, open_to_read};
-pub use restart::{a_crash_leaves_a_prefix_of_the_commits, a_table_can_be_opened_again};
+pub use restart::{
+    a_crash_leaves_a_prefix_of_the_commits, a_table_can_be_opened_again,
+    an_opening_finds_what_a_crash_left,
+};
 pub use store::Store;
 pub use table_changes::begin_gathering;
 pub use table_openings::{heavy_roots_are_too_much, new_files_are_free, paths_are_apart};

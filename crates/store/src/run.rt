@@ -4,7 +4,7 @@ ghost use Rattle.std.specs.Prelude.{◌≡◌, ◌≤◌, ◌↔◌, map, length
 ghost use Rattle.table.specs.Calls.{done, job, cursor, more, planned, listed, counted, accepted};
 ghost use Rattle.table.specs.Views.{call_view, answer_view, answered, info_view, fetched_view};
 ghost use Rattle.table_state.specs.Promises.{Acts, HasCause};
-ghost use Rattle.store.specs.Running.{Runs, HaveCauses};
+ghost use Rattle.store.specs.Running.{Runs, HaveCauses, IsNoListing, IsListingOf, TellsGroups, ListingsAreOfTheRoot};
 
 use crate::store::Store;
 use bits::{R, Refusal};
@@ -13,7 +13,8 @@ use std::alloc::Global;
 use table::{Answer, Call, Fetched, GroupInfo};
 
 fn of_commit(made: R<u64>) -> Answer
-    ensures { answer_view result ≡ answered done made }
+    ensures value { answer_view result ≡ answered done made }
+    ensures other { IsNoListing result }
 {
     match made {
         Ok(n) => Answer::Done(n),
@@ -22,7 +23,8 @@ fn of_commit(made: R<u64>) -> Answer
 }
 
 fn of_job(made: R<u64>) -> Answer
-    ensures { answer_view result ≡ answered job made }
+    ensures value { answer_view result ≡ answered job made }
+    ensures other { IsNoListing result }
 {
     match made {
         Ok(n) => Answer::Job(n),
@@ -31,7 +33,8 @@ fn of_job(made: R<u64>) -> Answer
 }
 
 fn of_cursor(made: R<u64>) -> Answer
-    ensures { answer_view result ≡ answered cursor made }
+    ensures value { answer_view result ≡ answered cursor made }
+    ensures other { IsNoListing result }
 {
     match made {
         Ok(n) => Answer::Cursor(n),
@@ -40,7 +43,8 @@ fn of_cursor(made: R<u64>) -> Answer
 }
 
 fn of_count(made: R<u64>) -> Answer
-    ensures { answer_view result ≡ answered counted made }
+    ensures value { answer_view result ≡ answered counted made }
+    ensures other { IsNoListing result }
 {
     match made {
         Ok(n) => Answer::Count(n),
@@ -49,7 +53,8 @@ fn of_count(made: R<u64>) -> Answer
 }
 
 fn of_unit(made: R<()>) -> Answer
-    ensures { answer_view result ≡ answered (λ _. accepted) made }
+    ensures value { answer_view result ≡ answered (λ _. accepted) made }
+    ensures other { IsNoListing result }
 {
     match made {
         Ok(()) => Answer::Accepted,
@@ -58,7 +63,8 @@ fn of_unit(made: R<()>) -> Answer
 }
 
 fn of_more(made: R<bool>) -> Answer
-    ensures { answer_view result ≡ answered more made }
+    ensures value { answer_view result ≡ answered more made }
+    ensures other { IsNoListing result }
 {
     match made {
         Ok(left) => Answer::More(left),
@@ -67,7 +73,8 @@ fn of_more(made: R<bool>) -> Answer
 }
 
 fn of_plan(made: R<Vec<u64>>) -> Answer
-    ensures { answer_view result ≡ answered (λ ns. planned ns.items) made }
+    ensures value { answer_view result ≡ answered (λ ns. planned ns.items) made }
+    ensures other { IsNoListing result }
 {
     match made {
         Ok(numbers) => Answer::Plan(numbers),
@@ -76,7 +83,8 @@ fn of_plan(made: R<Vec<u64>>) -> Answer
 }
 
 fn of_groups(made: R<Vec<GroupInfo>>) -> Answer
-    ensures { answer_view result ≡ answered (λ gs. listed (map info_view gs.items)) made }
+    ensures value { answer_view result ≡ answered (λ gs. listed (map info_view gs.items)) made }
+    ensures listing { IsListingOf made result }
 {
     match made {
         Ok(groups) => Answer::Groups(groups),
@@ -85,7 +93,8 @@ fn of_groups(made: R<Vec<GroupInfo>>) -> Answer
 }
 
 fn of_fetch(made: R<Fetched>) -> Answer
-    ensures { answer_view result ≡ answered fetched_view made }
+    ensures value { answer_view result ≡ answered fetched_view made }
+    ensures other { IsNoListing result }
 {
     match made {
         Ok(fetched) => Answer::from(fetched),
@@ -96,6 +105,7 @@ fn of_fetch(made: R<Fetched>) -> Answer
 /// Makes one call.
 pub(crate) fn make<D: Disk>(store: &mut Store<D>, alloc: Global, call: &Call) -> Answer
     ensures acts { Acts D.state store.old store.new (call_view call.now) (answer_view result) }
+    ensures told { TellsGroups store.old result }
     ensures cause { HasCause D.state store.old store.new (answer_view result) }
     ensures counts { (D.state store.old.vault.disk).failures ≤ (D.state store.new.vault.disk).failures }
     ensures honest { (D.state store.old.vault.disk).honest ↔ (D.state store.new.vault.disk).honest }
@@ -135,6 +145,8 @@ impl<D: Disk> Store<D> {
         // start leaves the table after the commits done by that moment, or after these and the one in progress
         // or in doubt.
         ensures headline { IfOk result (λ answers. Runs D.state self.old self.new (map call_view calls.now) (map answer_view answers.items)) }
+        // What `groups` tells of the groups is what the root had then, their bytes as well.
+        ensures told { IfOk result (λ answers. ListingsAreOfTheRoot D.state self.old self.new (map call_view calls.now) answers.items) }
         // Each answer that tells of a failed disk has a failure of its own.
         ensures causes { IfOk result (λ answers. HaveCauses D.state self.old self.new (map answer_view answers.items)) }
         ensures memory { IfErr result (λ e. e ≡ Refusal.Memory) }

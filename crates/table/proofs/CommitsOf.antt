@@ -5,8 +5,8 @@ use Rattle.table.specs.State.{State}
 use Rattle.table.specs.Calls.{Call, append, begin_append, stage, commit, abort, remove, remove_groups, begin_rewrite, step_rewrite, plan_rewrite, query, fetch, close, groups, count, import, add_column, reopen, Answer, done, job, cursor, batch, ended, more, planned, listed, counted, accepted, refused}
 use Rattle.table.specs.Leading.{IsDone}
 use Rattle.table.specs.History.{Does}
-use Rattle.table.specs.Refusing.{Happens, IsRefused, checked, stale, foreign, unfit, over, no_memory, failed, in_doubt, Stays}
-use Rattle.table.specs.Beginnings.{Adds, last_of, RunsAreOfCommits}
+use Rattle.table.specs.Refusing.{Happens, Run, IsRefused, checked, stale, foreign, unfit, over, no_memory, failed, in_doubt, Stays}
+use Rattle.table.specs.Beginnings.{Adds, Commits, last_of, RunsAreOfCommits}
 
 -- ---- one call
 
@@ -114,13 +114,11 @@ last_joined t [] ys = refl
 last_joined t (x ∷ xs) ys = last_joined x xs ys
 
 pub runs_are_of_commits : RunsAreOfCommits
-runs_are_of_commits s [] [] new run = ([], (run, refl), table_of new s run)
-runs_are_of_commits s [] (answer ∷ answers) new run = absurd run
-runs_are_of_commits s (call ∷ calls) [] new run = absurd run
-runs_are_of_commits s (call ∷ calls) (answer ∷ answers) new run =
-    let first = happens s call answer run.0 run.1 in
-    let rest = runs_are_of_commits run.0 calls answers new run.2 in (
+runs_are_of_commits s calls answers new Run.no_calls = ([], Commits.no_calls, refl)
+runs_are_of_commits s calls answers new (Run.first_call {mid = mid} {call = call} {answer = answer} {calls = later} {answers = told} here run) =
+    let first = happens s call answer mid here in
+    let rest = runs_are_of_commits mid later told new run in (
       first.0 ++ rest.0,
-      (run.0, first.0, rest.0, run.1, first.1, rest.1, refl),
+      Commits.first_call first.0 here first.1 rest.1,
       rest.2 ∙ ap (λ (u : Table). last_of u rest.0) first.2 ∙ sym (last_joined s.table first.0 rest.0),
     )

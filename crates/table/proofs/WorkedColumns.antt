@@ -17,7 +17,7 @@ use Rattle.table.specs.Columns.{IsColumnFor}
 use Rattle.table.specs.Commits.{appended, extended}
 use Rattle.table.specs.State.{State, appending, had_with}
 use Rattle.table.specs.Calls.{append, begin_append, stage, commit, query, fetch, add_column, done, job, cursor, batch, ended, accepted, refused}
-use Rattle.table.specs.Refusing.{Happens, unfit}
+use Rattle.table.specs.Refusing.{Happens, no_calls, first_call, unfit}
 use Rattle.table.specs.Worked.{group}
 use Rattle.table.specs.WorkedKeys.{keyed_schema, by_k, kx, key}
 use Rattle.table.specs.WorkedColumns.{y_field, y_elements, required_elements, wide_schema, kxy, keyed_batch, wide_batch, y_at_least_one, s0, ColumnsRun}
@@ -270,4 +270,4 @@ step19 : Happens s19 (add_column required_elements) (refused Schema) s19
 step19 = unfit required_elements refl refl (tt, inr (refl, not_optional)) (stays s19 (add_column required_elements) refl)
 
 pub columns_run : ColumnsRun
-columns_run = (s19, (s1, step0, (s2, step1, (s3, step2, (s4, step3, (s5, step4, (s6, step5, (s7, step6, (s8, step7, (s9, step8, (s10, step9, (s11, step10, (s12, step11, (s13, step12, (s14, step13, (s15, step14, (s16, step15, (s17, step16, (s18, step17, (s19, step18, (s19, step19, refl)))))))))))))))))))))
+columns_run = (s19, first_call step0 (first_call step1 (first_call step2 (first_call step3 (first_call step4 (first_call step5 (first_call step6 (first_call step7 (first_call step8 (first_call step9 (first_call step10 (first_call step11 (first_call step12 (first_call step13 (first_call step14 (first_call step15 (first_call step16 (first_call step17 (first_call step18 (first_call step19 no_calls))))))))))))))))))))

@@ -14,12 +14,11 @@ Adds old accepted new tables = ((tables ≡ []) × (new.table ≡ old.table)) �
 Adds old _ new tables = tables ≡ []
 
 -- Calls one after another, and the tables that their commits lead to, in order.
-abbrev pub Commits : State → List Call → List Answer → State → List Table → Type 0
-Commits s [] [] new tables = (new ≡ s) × (tables ≡ [])
-Commits s (call ∷ calls) (answer ∷ answers) new tables =
-    (mid : State) × (added : List Table) × (later : List Table) × Happens s call answer mid × Adds s answer mid added × Commits mid calls answers new later × (tables ≡ added ++ later)
-Commits s [] (answer ∷ answers) new tables = ⊥
-Commits s (call ∷ calls) [] new tables = ⊥
+pub data Commits : State → List Call → List Answer → State → List Table → Type 0 where
+  no_calls : {s : State} → Commits s [] [] s []
+  first_call : {s mid new : State} {call : Call} {answer : Answer} {calls : List Call} {answers : List Answer} {later : List Table} (added : List Table)
+      → Happens s call answer mid → Adds s answer mid added → Commits mid calls answers new later
+      → Commits s (call ∷ calls) (answer ∷ answers) new (added ++ later)
 
 -- the last of the tables, or `t` if there are none
 abbrev pub last_of : Table → List Table → Table

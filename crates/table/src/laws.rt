@@ -58,7 +58,6 @@ pub fn stops_leave_a_beginning()
 {}
 
 /// Worked calls and their answers.
-#[tactic(auto, using(crate::proofs::WorkedNumbers::numbers_run, crate::proofs::WorkedKeys::keyed_run, crate::proofs::WorkedFull::full_run, crate::proofs::WorkedColumns::columns_run))]
 pub fn worked_calls_are_runs()
     ensures numbers { NumbersRun }
     ensures keyed { KeyedRun }

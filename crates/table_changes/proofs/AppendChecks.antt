@@ -1,17 +1,16 @@
 -- An append up to its first file: its checks, and that no rows change nothing.
-use Rattle.std.proofs.Common.{◌≡◌, ◌≢◌, ◌≤◌, ◌<◌, ◌⊎◌, ℕ, Bool, true, false, not, nat_lt, List, [], ◌∷◌, map, length, None, Some, refl, sym, ◌∙◌, ap, arith, ⊎_elim}
-use Rattle.std.specs.Prelude.{Option, if◌then◌else◌}
+use Rattle.std.proofs.Common.{◌≡◌, ◌≢◌, ◌≤◌, ◌<◌, ◌⊎◌, ℕ, Bool, true, false, not, nat_lt, List, [], ◌∷◌, length, None, Some, refl, sym, ◌∙◌, ap, arith, ⊎_elim}
+use Rattle.std.specs.Prelude.{Option}
 use Rattle.std.proofs.lemmas.Bool.{ltb-true, lt-ltb}
 use Rattle.std.proofs.lemmas.List.{append-nil}
 use Rattle.bits.specs.declared.refusal.Refusal.{Refusal}
 use Rattle.bits.specs.declared.refusal.Refusal.TheVariants.{Closed, Full, RowShape, Key, Stale, Memory}
 use Rattle.schema.specs.Keys.{key_of_row}
-use Rattle.partition.specs.Order.{AreInTableOrder}
 use Rattle.partition.specs.Folders.{AreKeyColumns}
 use Rattle.partition.proofs.KeyColumns.{keys_can}
 use Rattle.disk.specs.State.{State as DiskState}
 use Rattle.table.specs.Table.{Row, Group}
-use Rattle.table.specs.InOrder.{put_in_order, in_order}
+use Rattle.table.specs.InOrder.{in_order}
 use Rattle.table.specs.Commits.{appended}
 use Rattle.table.specs.State.{State}
 use Rattle.table.specs.Faults.{first, unless}
@@ -26,19 +25,7 @@ use Rattle.table_state.specs.Stands.{Stands}
 use Rattle.table_state.specs.Promises.{ActsFrom}
 use Rattle.table_commits.proofs.UnchangedRefusals.{changes_nothing}
 use Rattle.table_commits.proofs.NumbersHad.{had_same}
-
--- groups in table order stay as they are
-put_front : (g : Group) (gs : List Group) → AreInTableOrder (g.key ∷ map (λ (h : Group). h.key) gs) → put_in_order (λ (h : Group). h.key) g gs ≡ g ∷ gs
-put_front g [] o = refl
-put_front g (h ∷ hs) o = ap (λ (b : Bool). if b then g ∷ h ∷ hs else h ∷ put_in_order (λ (x : Group). x.key) g hs) o.0
-
-rest : (g : Group) (gs : List Group) → AreInTableOrder (g.key ∷ map (λ (h : Group). h.key) gs) → AreInTableOrder (map (λ (h : Group). h.key) gs)
-rest g [] o = tt
-rest g (h ∷ hs) o = o.1
-
-pub stays_in_order : (gs : List Group) → AreInTableOrder (map (λ (h : Group). h.key) gs) → in_order (λ (h : Group). h.key) gs ≡ gs
-stays_in_order [] o = refl
-stays_in_order (g ∷ gs) o = ap (put_in_order (λ (h : Group). h.key) g) (stays_in_order gs (rest g gs o)) ∙ put_front g gs o
+use Rattle.table_commits.proofs.GroupsInOrder.{stays_in_order}
 
 of_rows : (e : Refusal) → (e ≡ RowShape) ⊎ (e ≡ Key) → e ≢ Stale
 of_rows e cause is = ⊎_elim (λ a. let c : RowShape ≡ Stale = sym a ∙ is in cc) (λ a. let c : Key ≡ Stale = sym a ∙ is in cc) cause

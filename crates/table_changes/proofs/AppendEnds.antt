@@ -1,35 +1,30 @@
 -- An append, once its rows are written or are not.
 use Rattle.std.proofs.Common.{◌≡◌, ◌≢◌, ◌≤◌, ◌<◌, ◌+◌, ◌⊎◌, ℕ, Bool, true, false, not, List, [], ◌∷◌, ◌++◌, length, None, Some, Ok, Err, refl, sym, ◌∙◌, ap, subst, arith, ⊎_elim}
-use Rattle.std.specs.Prelude.{Option, IsTrue}
+use Rattle.std.specs.Prelude.{Option}
 use Rattle.std.specs.List.{AllByRecursion}
 use Rattle.std.proofs.lemmas.List.{nil_from_length}
 use Rattle.bits.specs.declared.refusal.Refusal.{Refusal}
-use Rattle.bits.specs.declared.refusal.Refusal.TheVariants.{Limit, Device, Memory, Closed, Full, RowShape, Key as BadKey}
+use Rattle.bits.specs.declared.refusal.Refusal.TheVariants.{Limit, Device, Memory, Closed, Full}
 use Rattle.bits.specs.Refusals.{HasCause}
-use Rattle.schema.specs.Fits.{fits_each}
 use Rattle.schema.specs.Keys.{key_of_row, without_keys}
-use Rattle.partition.specs.Folders.{AreKeyColumns, CanPartition}
 use Rattle.disk.specs.State.{State as DiskState}
 use Rattle.vault.specs.Calls.{HasFailed}
 use Rattle.manifest.specs.Groups.{Group as FileGroup, root_of}
 use Rattle.manifest.specs.Records.{IsGroup}
 use Rattle.manifest.specs.Laid.{IsRootTooHeavy}
 use Rattle.planning.specs.Told.{IsNextOf}
-use Rattle.planning.proofs.Ordered.{sorted_stays, in_order_is}
 use Rattle.planning.proofs.Showing.{placed_are_in_order}
 use Rattle.planning.proofs.Kept.{placed_are_distinct}
 use Rattle.table.specs.Table.{Row, Group, Table, rows, IsGroupIn}
 use Rattle.table.specs.InOrder.{in_order}
 use Rattle.table.specs.State.{State}
 use Rattle.table.specs.Faults.{first, unless}
-use Rattle.table.specs.Deciding.{has_folders}
 use Rattle.table.specs.Checks.{fault, rows_fault, can_count}
 use Rattle.table.specs.Calls.{append, done, refused}
 use Rattle.table.specs.Leading.{Rises}
 use Rattle.table.specs.Limits.{IsOver, group as over_group}
 use Rattle.table.specs.Refusing.{Happens, is_failure, over as refused_over, no_memory, failed as refused_failed, Stays}
 use Rattle.table.proofs.Counters.{counters_cover}
-use Rattle.table.proofs.Deciding.{folders_decide}
 use Rattle.partition.proofs.KeyColumns.{keys_can}
 use Rattle.table_state.specs.declared.standing.Core.{Core}
 use Rattle.table_state.specs.Stands.{AreStored, Stands}
@@ -45,25 +40,8 @@ use Rattle.table_commits.proofs.CommitsFromParts.{commits_act, refusals_act}
 use Rattle.table_commits.proofs.AppendCommits.{all_order, length_order, stored_order, appends_are_ready}
 use Rattle.table_commits.proofs.GroupRemovals.{has_reason}
 use Rattle.table_commits.proofs.GroupsByKey.{rows_in_order, groups_keyed}
-use Rattle.table_commits.proofs.KeyOrder.{same_behind}
-
-pub sorted_behind : (xs ys : List FileGroup) → in_order (λ (g : FileGroup). g.key) (xs ++ in_order (λ (g : FileGroup). g.key) ys) ≡ in_order (λ (g : FileGroup). g.key) (xs ++ ys)
-sorted_behind xs ys = same_behind (λ (g : FileGroup). g.key) xs (in_order (λ (g : FileGroup). g.key) ys) ys (sorted_stays (λ (g : FileGroup). g.key) (in_order (λ (g : FileGroup). g.key) ys) (in_order_is (λ (g : FileGroup). g.key) ys))
-
--- ---- rows without a fault
-
-module _ (t : Table) (columns : AreKeyColumns t.keys) where
-  fine_row : (a b : Bool) (o : Option Refusal) → first (unless a RowShape ∷ unless b BadKey ∷ o ∷ []) ≡ None → (a ≡ true) × (b ≡ true) × (o ≡ None)
-  fine_row true true None e = (refl, refl, refl)
-  fine_row true true (Some f) e = absurd (cc)
-  fine_row true false o e = absurd (cc)
-  fine_row false b o e = absurd (cc)
-
-  pub fine_rows : (given : List Row) → rows_fault t given ≡ None → AllByRecursion (λ (row : Row). IsTrue (fits_each t.schema row) × CanPartition t.keys (key_of_row t.keys row)) given
-  fine_rows [] e = tt
-  fine_rows (row ∷ given) e =
-      let p = fine_row (fits_each t.schema row) (has_folders t.keys (key_of_row t.keys row)) (rows_fault t given) e in
-      ((p.0, (folders_decide t.keys (key_of_row t.keys row) columns).0 p.1), fine_rows given p.2)
+use Rattle.table_commits.proofs.GroupsInOrder.{sorted_behind}
+use Rattle.table_commits.proofs.FineRows.{fine_rows}
 
 no_fault : (s : State) (given : List Row) → fault s (append given) ≡ None → rows_fault s.table given ≡ None
 no_fault s given e = by (not s.closed) (can_count s.next_group) (rows_fault s.table given) e

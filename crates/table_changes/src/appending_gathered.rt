@@ -1,12 +1,12 @@
 //! Appends of rows that were gathered.
 
-ghost use Rattle.std.specs.Prelude.{◌≡◌, ◌≢◌, ◌≤◌, ◌↔◌, [], List, length, true, false, None, Err, IsTrue};
+ghost use Rattle.std.specs.Prelude.{◌≡◌, ◌≢◌, ◌≤◌, ◌↔◌, [], List, length, true, false, None, Err, IfOk, IsTrue};
 ghost use Rattle.schema.specs.Keys.{key_column_view, key_columns_view};
 ghost use Rattle.vault.specs.Calls.{HasFailed};
 ghost use Rattle.gather.specs.GatheredRows.{holds};
 ghost use Rattle.gather.specs.KeyBuffers.{HoldGroups};
-ghost use Rattle.manifest.specs.Groups.{root_of};
-ghost use Rattle.manifest.specs.Root.{stored_of};
+ghost use Rattle.manifest.specs.Groups.{root_of, handles_view};
+ghost use Rattle.manifest.specs.Root.{CanHave, stored_of};
 ghost use Rattle.table.specs.Table.{Row as TableRow};
 ghost use Rattle.table_commits.specs.Gathering.{AreGatheredFor};
 ghost use Rattle.table.specs.State.{State};
@@ -122,6 +122,7 @@ fn write_groups<D: Disk>(
     ensures writes { (D.state store.old.vault.disk).honest → (start : Core D) (s : State) (rows : List TableRow) → s.closed ≡ false → AreFine s rows
         → HoldGroups s.table.keys s.options.group_rows (stored_of (root_of store.old.manifest)) rows groups.entry.items
         → HasWritten D.state start store.old s job [] [] → store.old.next_group ≡ s.next_group → EndsWith D.state start store.new s job rows result }
+    ensures fit { IfOk result (λ written. CanHave (root_of store.old.manifest) (handles_view written.items)) }
     ensures same { store.new ≡ record store.old { vault = store.new.vault; snapshots = store.new.snapshots; next_group = store.new.next_group } }
     ensures sure { IsSure result }
     ensures counts { (D.state store.old.vault.disk).failures ≤ (D.state store.new.vault.disk).failures }

@@ -11,7 +11,7 @@ ghost use Rattle.filter.specs.Terms.{tests_of, terms_view};
 ghost use Rattle.filter.specs.Test.{tests_in};
 ghost use Rattle.gather.specs.KeyBuffers.{HoldsRows};
 ghost use Rattle.manifest.specs.Groups.{Group as Described, root_of, groups_in, handles_view};
-ghost use Rattle.manifest.specs.Root.{stored_of};
+ghost use Rattle.manifest.specs.Root.{CanHave, stored_of};
 ghost use Rattle.planning.specs.Numbered.{brought};
 ghost use Rattle.planning.specs.Replaced.{changes_view, replaced};
 ghost use Rattle.planning.specs.Told.{IsNextOf};
@@ -106,6 +106,7 @@ fn replace_groups<D: Disk>(
     ensures replaces { (D.state store.old.vault.disk).honest → (s : State) (terms : Terms) → root_of table.now ≡ root_of store.old.manifest → s.closed ≡ false → tests_of (leaves_of s.table.schema) terms ≡ Ok (tests_in filter.now)
         → HasWritten D.state store.old store.old s None [] [] → store.old.next_group ≡ s.next_group
         → ReplacesAll D.state store.old store.new s (all_satisfied (tests_in filter.now)) result }
+    ensures fit { IfOk result (λ removed. CanHave (root_of store.old.manifest) (brought (changes_view removed.changes.items))) }
     ensures same { store.new ≡ record store.old { vault = store.new.vault; snapshots = store.new.snapshots; next_group = store.new.next_group } }
     ensures sure { IsSure result }
     ensures counts { (D.state store.old.vault.disk).failures ≤ (D.state store.new.vault.disk).failures }
@@ -135,6 +136,8 @@ fn replace_group<D: Disk>(
     ensures replaces { (D.state store.old.vault.disk).honest → (start : Core D) (s : State) (terms : Terms) → root_of table.now ≡ root_of store.old.manifest → s.closed ≡ false → tests_of (leaves_of s.table.schema) terms ≡ Ok (tests_in filter.now)
         → place < length (root_of store.old.manifest).groups → HasReplaced D.state start store.old s (all_satisfied (tests_in filter.now)) place removed.old
         → Replaces D.state start store.new s (all_satisfied (tests_in filter.now)) (place + 1) removed.new result }
+    ensures fit { OnOk result (CanHave (root_of store.old.manifest) (brought (changes_view removed.old.changes.items))
+        → CanHave (root_of store.old.manifest) (brought (changes_view removed.new.changes.items))) }
     ensures same { store.new ≡ record store.old { vault = store.new.vault; snapshots = store.new.snapshots; next_group = store.new.next_group } }
     ensures sure { IsSure result }
     ensures counts { (D.state store.old.vault.disk).failures ≤ (D.state store.new.vault.disk).failures }
@@ -158,6 +161,8 @@ fn put_remains<D: Disk>(
         → HasWritten D.state start store.old s None files groups → HoldsRows (stored_of (root_of store.old.manifest)) stored remains.entry.rest
         → IsBuffer s.table.schema s.table.keys (buffer (key_view remains.entry.rest.key) stored) (buffer (key_view remains.entry.rest.key) held)
         → Puts D.state start store.old store.new s files groups held remains.entry removed.old removed.new result }
+    ensures fit { OnOk result (CanHave (root_of store.old.manifest) (brought (changes_view removed.old.changes.items))
+        → CanHave (root_of store.old.manifest) (brought (changes_view removed.new.changes.items))) }
     ensures same { store.new ≡ record store.old { vault = store.new.vault; snapshots = store.new.snapshots; next_group = store.new.next_group } }
     ensures sure { IsSure result }
     ensures counts { (D.state store.old.vault.disk).failures ≤ (D.state store.new.vault.disk).failures }
@@ -178,6 +183,7 @@ fn with_changes<D: Disk>(store: &Core<D>, alloc: Global, changes: &[Change]) -> 
     ensures replaced { IfOk result (λ v. groups_in v ≡ replaced (changes_view changes.now) (root_of store.now.manifest).groups) }
     ensures below { (next : ℕ) → (root_of store.now.manifest).next ≤ next → AllByRecursion (λ (g : Described). g.number < next) (brought (changes_view changes.now))
         → IfOk result (λ v. AllByRecursion (λ (g : Described). g.number < next) (groups_in v)) }
+    ensures each { CanHave (root_of store.now.manifest) (brought (changes_view changes.now)) → IfOk result (λ v. CanHave (root_of store.now.manifest) (groups_in v)) }
     ensures which { RefusedMemoryOnly result }
 {
     let version = store.manifest.groups();

@@ -19,8 +19,9 @@ pub(crate) fn widened(alloc: Global, table: &Manifest, elements: &[Element]) -> 
     ensures which { IfErr result (IsColumnFault (root_of table.now).schema (elements_view elements.now)) }
 {
     let schema = table.schema().with_field(alloc, elements)?;
-    // For the proof: the keys are columns of the old schema, and so of the new one.
+    // For the proof: the keys are columns of the old schema, and so of the new one, whose table can have the groups.
     let _ = table.keys();
+    let _ = table.groups();
     let manifest = table.with_schema(alloc, schema)?;
     Ok(manifest)
 }

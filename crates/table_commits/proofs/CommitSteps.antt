@@ -6,7 +6,7 @@ use Rattle.bits.specs.declared.refusal.Refusal.TheVariants.{Limit, Device, InDou
 use Rattle.bits.specs.Refusals.{HasCause}
 use Rattle.disk.specs.State.{State as DiskState}
 use Rattle.manifest.specs.Groups.{Group as FileGroup, Root, root_of}
-use Rattle.manifest.specs.Root.{IsDescription, RootMeans}
+use Rattle.manifest.specs.Root.{RootMeans}
 use Rattle.snapshots.specs.State.{committed, after, fault_of}
 use Rattle.snapshots.specs.Views.{state_of}
 use Rattle.table.specs.Table.{Table}
@@ -37,7 +37,7 @@ module _ {D : Type 0} (state : D → DiskState) (store : Core D) (s : State) (t 
         keys = planned.keys;
         covers = planned.covers;
         ready = record {
-          means = subst (λ (r : Root). RootMeans turn.root.items r) (sym is) (made.means planned.described);
+          means = subst (λ (r : Root). RootMeans turn.root.items r) (sym is) made.means;
           schema = ap (λ (r : Root). r.schema) is ∙ planned.schema_is;
           keys = ap (λ (r : Root). r.keys) is ∙ planned.keys_are;
           next = ap (λ (r : Root). r.next) is ∙ planned.next_is;
@@ -78,8 +78,8 @@ module _ {D : Type 0} (state : D → DiskState) (store : Core D) (s : State) (t 
     doubt = λ is. absurd (no_doubt e cause is);
   }
 
-  pub too_heavy : (A : Type 0) → (IsDescription root → A) ⊎ (fault_of (state_of store.snapshots) (committed root.groups job) ≡ Some Limit) → A
-  too_heavy A (inl h) = h planned.described
+  pub too_heavy : (A : Type 0) → A ⊎ (fault_of (state_of store.snapshots) (committed root.groups job) ≡ Some Limit) → A
+  too_heavy A (inl h) = h
   too_heavy A (inr f) = absurd (let c : None ≡ Some Limit = sym planned.unrefused ∙ f in cc)
 
   -- it was done, and what nothing needs was removed

@@ -56,6 +56,11 @@ pub memory_only : (e : Refusal) → HasCause (λ _. ⊥) e → e ≡ Memory
 memory_only Memory h = refl
 memory_only e h = absurd h
 
+-- what is refused for memory alone
+pub memory_so : (e : Refusal) → HasCause (λ f. ⊥) e → (P : Refusal → Type 0) → P Memory → P e
+memory_so Memory h P p = p
+memory_so e h P p = absurd h
+
 pub failure_of : (e : Refusal) → is_failure (refused e) ≡ true → (e ≡ Device) ⊎ (e ≡ InDoubt)
 failure_of Device h = inl refl
 failure_of InDoubt h = inr refl

@@ -27,6 +27,9 @@ pub mod JobsChanged
 mod CopiedRows
 pub mod RowsWithoutKeys
 pub mod KeyOrder
+pub mod GroupsInOrder
+pub mod FineRows
+pub mod DisksLeftAlone
 mod WaitingPlaces
 pub mod GroupsByKey
 pub mod OneFileMore

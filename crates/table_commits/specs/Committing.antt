@@ -41,7 +41,7 @@ with_version root files next = record root { next = next; groups = files }
 pub record IsMade (versions : Versions) (root : Root) (job : Option ℕ) (turn : Turn) : Type 0 where
   pub manifest_is : root_of turn.manifest ≡ root
   pub job_is : turn.job ≡ job
-  pub means : IsDescription root → RootMeans turn.root.items root
+  pub means : RootMeans turn.root.items root
   pub prepared_is : prepared_of turn.prepared ≡ after versions (committed root.groups job)
 
 -- The jobs that are left without one, or all, are these in this table once it is there: no number that they wrote is in it.

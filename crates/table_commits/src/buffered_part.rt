@@ -10,8 +10,10 @@ ghost use Rattle.footer.specs.Faults.{IsOverLimit};
 ghost use Rattle.footer.specs.Own.{IsLaidOut};
 ghost use Rattle.footer.specs.Writing.{IsOutOfRange, IsTooMuch};
 ghost use Rattle.gather.specs.KeyBuffers.{HoldsRows};
-ghost use Rattle.manifest.specs.Groups.{root_of, handles_view};
-ghost use Rattle.manifest.specs.Root.{stored_of};
+ghost use Rattle.std.specs.Rc.{rc_value};
+ghost use Rattle.manifest.specs.Groups.{root_of, group_view, handles_view};
+ghost use Rattle.manifest.specs.Root.{CanHave, stored_of};
+ghost use Rattle.manifest.specs.Records.{IsGroup};
 ghost use Rattle.manifest.specs.Written.{HaveRecord};
 ghost use Rattle.metadata.specs.Views.{file_meta_view};
 ghost use Rattle.snapshots.specs.State.{job_is_open};
@@ -56,6 +58,7 @@ pub fn write_gathered<D: Disk>(
         → Adds D.state start store.old store.new s job (handles_view written.new.items) groups
         (written_group store.old.next_group (key_view buffer.entry.key) rows) result }
     ensures goes { OnOk result (Goes (handles_view written.old.items) (handles_view written.new.items)) }
+    ensures fit { OnOk result (CanHave (root_of store.old.manifest) (handles_view written.old.items) → CanHave (root_of store.old.manifest) (handles_view written.new.items)) }
     ensures which { (stored : List TableRow) → HoldsRows (stored_of (root_of store.old.manifest)) stored buffer.entry
         → RefusedOnly (IsPartRefusal store.old job (key_view buffer.entry.key) stored) result }
     ensures sure { IsSure result }
@@ -87,6 +90,7 @@ pub(crate) fn write_buffered<D: Disk>(
     ensures writes { (D.state store.old.vault.disk).honest → (s : State) (stored held : List TableRow) → Shows D.state store.old s → s.closed ≡ false
         → job_is_open (state_of store.old.snapshots) job ≡ true → HoldsPart (root_of store.old.manifest) store.old.options buffer.entry stored
         → AreRowsOf s.table.keys (key_view buffer.entry.key) stored held → Writes D.state store.old store.new job (key_view buffer.entry.key) held result s }
+    ensures is { IfOk result (λ g. IsGroup (root_of store.old.manifest).keys (stored_of (root_of store.old.manifest)) (group_view (rc_value g))) }
     ensures which { (stored : List TableRow) → HoldsPart (root_of store.old.manifest) store.old.options buffer.entry stored
         → RefusedOnly (IsPartRefusal store.old job (key_view buffer.entry.key) stored) result }
     ensures sure { IsSure result }
@@ -119,6 +123,7 @@ pub(crate) fn buffered_part(
         → AreRowsOf (root_of table.now).keys (key_view buffer.entry.key) stored held
         → IsPartFor (root_of table.now).keys (root_of table.now).schema number (key_view buffer.entry.key) held part) }
     ensures no_root { IfOk result (λ part. IsNoRoot (string_bytes part.path)) }
+    ensures is { IfOk result (λ part. IsGroup (root_of table.now).keys (stored_of (root_of table.now)) (group_view (rc_value part.group))) }
     ensures which { (stored : List TableRow) → HoldsPart (root_of table.now) options.now buffer.entry stored
         → RefusedOnly (IsUnfit (root_of table.now) options.now (key_view buffer.entry.key) stored) result }
     ensures sure { IsSure result }

@@ -6,6 +6,7 @@ ghost use Rattle.bits.specs.Refusals.{RefusedOnly, RefusedMemoryOnly};
 ghost use Rattle.table.specs.InOrder.{in_order};
 ghost use Rattle.manifest.specs.Groups.{Group as Described, root_of, groups_in, handles_view};
 ghost use Rattle.manifest.specs.Laid.{IsRootTooHeavy};
+ghost use Rattle.manifest.specs.Root.{CanHave};
 ghost use Rattle.table.specs.Table.{Table};
 ghost use Rattle.table.specs.State.{State, Job};
 ghost use Rattle.table_state.specs.Promises.{ClosesInDoubt};
@@ -52,7 +53,8 @@ pub fn commit_to<D: Disk>(
     Ok(())
 }
 
-/// Commits as `commit_to` does, to these groups, whose numbers are below this next number, in the table as it is described.
+/// Commits as `commit_to` does, to these groups, whose numbers are below this next number, in the table as it is described,
+/// which can have them.
 pub fn commit_version<D: Disk>(
     store: &mut Core<D>,
     alloc: Global,
@@ -61,6 +63,7 @@ pub fn commit_version<D: Disk>(
     job: Option<JobId>,
 ) -> R<()>
     requires below { AllByRecursion (λ (g : Described). g.number < next) (groups_in groups) }
+    requires each { CanHave (root_of store.old.manifest) (groups_in groups) }
     ensures turns { (D.state store.old.vault.disk).honest → (s : State) (t : Table) (jobs : List (ℕ × Job)) → Shows D.state store.old s → s.closed ≡ false
         → IsPlanned (D.state store.old.vault.disk) store.old s t jobs job (with_version (root_of store.old.manifest) (groups_in groups) next)
         → Turns D.state store.old store.new s t jobs result }
@@ -86,6 +89,8 @@ pub fn with_new<D: Disk>(store: &Core<D>, alloc: Global, new: &[Rc<Group>]) -> R
     ensures placed { IfOk result (λ v. groups_in v ≡ in_order (λ (g : Described). g.key) ((root_of store.now.manifest).groups ++ handles_view new.now)) }
     ensures below { (next : ℕ) → (root_of store.now.manifest).next ≤ next → AllByRecursion (λ (g : Described). g.number < next) (handles_view new.now)
         → IfOk result (λ v. AllByRecursion (λ (g : Described). g.number < next) (groups_in v)) }
+    ensures each { CanHave (root_of store.now.manifest) (handles_view new.now)
+        → IfOk result (λ v. CanHave (root_of store.now.manifest) (groups_in v)) }
     ensures which { RefusedMemoryOnly result }
 {
     let version = store.manifest.groups();

@@ -4,7 +4,7 @@ ghost use Rattle.std.specs.Prelude.{◌≡◌, ◌<◌, ◌⊎◌, Some, None, E
 ghost use Rattle.std.specs.List.{AllByRecursion};
 ghost use Rattle.bits.specs.Refusals.{RefusedOnly};
 ghost use Rattle.manifest.specs.Groups.{Group as Described, root_of, groups_in};
-ghost use Rattle.manifest.specs.Root.{IsDescription};
+ghost use Rattle.manifest.specs.Root.{CanHave};
 ghost use Rattle.manifest.specs.Laid.{IsRootTooHeavy};
 ghost use Rattle.snapshots.specs.State.{fault_of, committed};
 ghost use Rattle.snapshots.specs.Views.{state_of};
@@ -30,7 +30,7 @@ pub(crate) fn make_turn<D: Disk>(
 ) -> R<Turn>
     ensures made { IfOk result (IsMade (state_of store.now.snapshots) (root_of manifest) job) }
     ensures sound { IfOk result (λ _. fault_of (state_of store.now.snapshots) (committed (root_of manifest).groups job) ≡ None) }
-    ensures limit { result ≡ Err Refusal.Limit → (IsDescription (root_of manifest) → IsRootTooHeavy (root_of manifest))
+    ensures limit { result ≡ Err Refusal.Limit → IsRootTooHeavy (root_of manifest)
         ⊎ (fault_of (state_of store.now.snapshots) (committed (root_of manifest).groups job) ≡ Some Refusal.Limit) }
     ensures which { RefusedOnly (λ e. (e ≡ Refusal.Limit) ⊎ (fault_of (state_of store.now.snapshots) (committed (root_of manifest).groups job) ≡ Some e)) result }
     ensures sure { IsSure result }
@@ -48,7 +48,8 @@ pub(crate) fn make_turn<D: Disk>(
     })
 }
 
-/// Makes ready a commit as `make_turn` does, to these groups and this next number, in the table as it is described.
+/// Makes ready a commit as `make_turn` does, to these groups and this next number, in the table as it is described, which
+/// can have them.
 pub(crate) fn make_version_turn<D: Disk>(
     store: &Core<D>,
     alloc: Global,
@@ -57,8 +58,9 @@ pub(crate) fn make_version_turn<D: Disk>(
     job: Option<JobId>,
 ) -> R<Turn>
     requires below { AllByRecursion (λ (g : Described). g.number < next) (groups_in groups) }
+    requires each { CanHave (root_of store.now.manifest) (groups_in groups) }
     ensures made { IfOk result (IsMade (state_of store.now.snapshots) (with_version (root_of store.now.manifest) (groups_in groups) next) job) }
-    ensures limit { result ≡ Err Refusal.Limit → (IsDescription (with_version (root_of store.now.manifest) (groups_in groups) next) → IsRootTooHeavy (with_version (root_of store.now.manifest) (groups_in groups) next))
+    ensures limit { result ≡ Err Refusal.Limit → IsRootTooHeavy (with_version (root_of store.now.manifest) (groups_in groups) next)
         ⊎ (fault_of (state_of store.now.snapshots) (committed (groups_in groups) job) ≡ Some Refusal.Limit) }
     ensures which { RefusedOnly (λ e. (e ≡ Refusal.Limit) ⊎ (fault_of (state_of store.now.snapshots) (committed (groups_in groups) job) ≡ Some e)) result }
     ensures sure { IsSure result }

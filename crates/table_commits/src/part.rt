@@ -1,6 +1,7 @@
 //! Part files.
 
-ghost use Rattle.std.specs.Prelude.{◌≡◌, ◌≤◌, ◌<◌, ◌+◌, ◌^◌, ◌-◌, ◌↔◌, List, true, false, string_bytes};
+ghost use Rattle.std.specs.Prelude.{◌≡◌, ◌≤◌, ◌<◌, ◌+◌, ◌^◌, ◌-◌, ◌↔◌, List, true, false, IfOk, string_bytes};
+ghost use Rattle.std.specs.Rc.{rc_value};
 ghost use Rattle.bits.specs.Refusals.{RefusedOnly};
 ghost use Rattle.snapshots.specs.State.{job_is_open};
 ghost use Rattle.snapshots.specs.Views.{state_of};
@@ -41,6 +42,7 @@ pub(crate) fn put_part<D: Disk>(
     ensures writes { (D.state store.old.vault.disk).honest → (s : State) (key : TableKey) (rows : List TableRow) → Shows D.state store.old s → s.closed ≡ false
         → job_is_open (state_of store.old.snapshots) job ≡ true → IsPartFor s.table.keys s.table.schema s.next_group key rows part
         → Writes D.state store.old store.new job key rows result s }
+    ensures group { IfOk result (λ g. rc_value g ≡ rc_value part.group) }
     ensures which { RefusedOnly (IsPutRefusal (state_of store.old.snapshots) job) result }
     ensures same { store.new ≡ record store.old { vault = store.new.vault; snapshots = store.new.snapshots; next_group = store.new.next_group } }
     ensures rises { store.new.next_group ≤ store.old.next_group + 1 }

@@ -6,7 +6,9 @@ ghost use Rattle.schema.specs.Views.{key_view};
 ghost use Rattle.schema.specs.Keys.{AreRowsOf};
 ghost use Rattle.shred.specs.Buffer.{schema_of, holds};
 ghost use Rattle.gather.specs.KeyBuffers.{HoldsRows};
-ghost use Rattle.manifest.specs.Groups.{root_of};
+ghost use Rattle.std.specs.Rc.{rc_value};
+ghost use Rattle.manifest.specs.Groups.{root_of, group_view};
+ghost use Rattle.manifest.specs.Records.{IsGroup};
 ghost use Rattle.manifest.specs.Root.{stored_of};
 ghost use Rattle.table.specs.Table.{Row as TableRow};
 ghost use Rattle.vault.specs.Views.{IsNoRoot};
@@ -37,6 +39,7 @@ pub fn write_whole<D: Disk>(store: &mut Core<D>, alloc: Global, rest: KeyBuffer<
     ensures writes { (D.state store.old.vault.disk).honest → (s : State) (stored held : List TableRow) → Shows D.state store.old s → s.closed ≡ false
         → HoldsRows (stored_of (root_of store.old.manifest)) stored rest.entry → AreRowsOf s.table.keys (key_view rest.entry.key) stored held
         → Writes D.state store.old store.new None (key_view rest.entry.key) held result s }
+    ensures is { IfOk result (λ g. IsGroup (root_of store.old.manifest).keys (stored_of (root_of store.old.manifest)) (group_view (rc_value g))) }
     ensures which { (stored : List TableRow) → HoldsRows (stored_of (root_of store.old.manifest)) stored rest.entry
         → RefusedOnly (IsPartRefusal store.old None (key_view rest.entry.key) stored) result }
     ensures sure { IsSure result }
@@ -80,6 +83,7 @@ fn wide_part(
         → AreRowsOf (root_of table.now).keys (key_view buffer.entry.key) stored held
         → IsPartFor (root_of table.now).keys (root_of table.now).schema number (key_view buffer.entry.key) held part) }
     ensures no_root { IfOk result (λ part. IsNoRoot (string_bytes part.path)) }
+    ensures is { IfOk result (λ part. IsGroup (root_of table.now).keys (stored_of (root_of table.now)) (group_view (rc_value part.group))) }
     ensures which { (stored : List TableRow) → HoldsRows (stored_of (root_of table.now)) stored buffer.entry → 1 ≤ length stored
         → RefusedOnly (IsUnfit (root_of table.now) options.now (key_view buffer.entry.key) stored) result }
     ensures sure { IsSure result }

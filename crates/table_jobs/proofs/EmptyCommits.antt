@@ -41,7 +41,7 @@ use Rattle.table_commits.proofs.AppendCommits.{length_order}
 use Rattle.table_jobs.proofs.JobChecks.{commit_fault}
 use Rattle.table_commits.proofs.NumbersHad.{had_same}
 use Rattle.table_commits.proofs.SomeGroups.{none_go}
-use Rattle.table_changes.proofs.AppendChecks.{stays_in_order}
+use Rattle.table_commits.proofs.GroupsInOrder.{stays_in_order}
 
 -- groups in table order stay as they are
 -- what goes side by side with nothing is nothing

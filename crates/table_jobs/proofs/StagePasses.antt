@@ -19,7 +19,7 @@ use Rattle.table_state.specs.Stands.{Stands}
 use Rattle.table_commits.specs.Filling.{AreFine, Filled}
 use Rattle.table_jobs.specs.Completing.{completed_buffers, waiting_at}
 use Rattle.table_state.specs.Lookups.{job_at}
-use Rattle.table_changes.proofs.AppendEnds.{fine_rows}
+use Rattle.table_commits.proofs.FineRows.{fine_rows}
 use Rattle.table_jobs.proofs.StageGoesOn.{IsThere, append_there, append_in}
 use Rattle.table_jobs.proofs.StageEnds.{filled, wait}
 

@@ -46,7 +46,7 @@ use Rattle.table_state.specs.Promises.{ActsFrom}
 use Rattle.table_jobs.specs.Staging.{is_nothing, finds_nothing, StagedIsReady}
 use Rattle.table_commits.specs.Filling.{IsFilled, IsStopped, IsAny, WhyStopped}
 use Rattle.table_commits.proofs.CommitsFromParts.{commits_act, refusals_act}
-use Rattle.table_changes.proofs.AppendEnds.{sorted_behind}
+use Rattle.table_commits.proofs.GroupsInOrder.{sorted_behind}
 use Rattle.table_commits.proofs.AppendCommits.{length_order}
 use Rattle.table_jobs.proofs.StagedCommitGroups.{come, added, all_stored, long_wait, brought, both_rows}
 use Rattle.table_commits.proofs.GroupRemovals.{has_reason}

@@ -1,6 +1,9 @@
 //! The ends of jobs.
 
-ghost use Rattle.std.specs.Prelude.{◌≡◌, ◌≤◌, ◌↔◌, true, false, None};
+ghost use Rattle.std.specs.Prelude.{◌≡◌, ◌≤◌, ◌↔◌, true, false, None, OnOk};
+ghost use Rattle.bits.specs.Refusals.{RefusedMemoryOnly};
+ghost use Rattle.manifest.specs.Groups.{root_of, handles_view};
+ghost use Rattle.manifest.specs.Root.{CanHave};
 ghost use Rattle.vault.specs.Calls.{HasFailed};
 ghost use Rattle.table_state.specs.Lookups.{job_at};
 ghost use Rattle.table_jobs.specs.Staging.{is_nothing, finds_nothing, finds_append, StagedAreReady};
@@ -17,9 +20,11 @@ use crate::rewritten::commit_rewrite;
 use crate::staging::finds_append;
 use bits::{R, Refusal};
 use disk::Disk;
+use manifest::Group;
 use planning::next_after;
 use snapshots::Event;
 use std::alloc::Global;
+use std::rc::Rc;
 use table::JobId;
 use table_commits::{commit_version, let_go, plus_rows, with_new, write_rest};
 use table_state::{Core, MOST_NUMBERS, OpenJob, Work, end_job, find_job};
@@ -77,8 +82,21 @@ fn commit_append<D: Disk>(store: &mut Core<D>, alloc: Global, job: JobId) -> R<u
     let count = plus_rows(0, come.as_slice())?;
     let groups = with_new(store, alloc, come.as_slice())?;
     let next = next_after(store.manifest.next(), come.as_slice());
+    check_groups(store, alloc, come.as_slice())?;
     commit_version(store, alloc, groups, next, Some(job))?;
     Ok(count)
+}
+
+/// Whether the table can have these groups. It can have what a job of it wrote, since no commit but that of a column changes
+/// its fields; else it is refused Memory, as for memory.
+fn check_groups<D: Disk>(store: &Core<D>, alloc: Global, groups: &[Rc<Group>]) -> R<()>
+    ensures can { OnOk result (CanHave (root_of store.now.manifest) (handles_view groups.now)) }
+    ensures which { RefusedMemoryOnly result }
+{
+    if !store.manifest.can_have(alloc, groups)? {
+        return Err(Refusal::Memory);
+    }
+    Ok(())
 }
 
 /// Ends a job. The files that it wrote are removed, where that can be done.

@@ -1,10 +1,11 @@
 //! The commit of a rewrite.
 
-ghost use Rattle.std.specs.Prelude.{◌≡◌, ◌≢◌, ◌≤◌, ◌<◌, ◌^◌, ◌++◌, ◌↔◌, ℕ, List, Some, None, [], false, true, IfOk};
+ghost use Rattle.std.specs.Prelude.{◌≡◌, ◌≢◌, ◌≤◌, ◌<◌, ◌^◌, ◌++◌, ◌↔◌, ℕ, List, Some, None, [], false, true, IfOk, OnOk};
 ghost use Rattle.std.specs.List.{AllByRecursion};
 ghost use Rattle.bits.specs.Refusals.{RefusedMemoryOnly};
 ghost use Rattle.vault.specs.Calls.{HasFailed};
 ghost use Rattle.manifest.specs.Groups.{Group as Described, root_of, groups_in, handles_view};
+ghost use Rattle.manifest.specs.Root.{CanHave};
 ghost use Rattle.planning.specs.Replaced.{run_view, runs_view, changes_of, replaced};
 ghost use Rattle.planning.specs.Numbered.{brought_by};
 ghost use Rattle.planning.specs.Runs.{sources_view};
@@ -99,6 +100,8 @@ fn rewrite_all<D: Disk>(
         → written.old.items ≡ [] → HasWritten D.state start store.old s (Some job) [] [] → AreRuns (D.state start.vault.disk) s (job_at job start.jobs.items) 0 (sources_view runs.now) given
         → RewritesAll D.state start store.new s (Some job) (handles_view written.new.items) given result }
     ensures come { IfOk result (λ made. handles_view written.new.items ≡ handles_view written.old.items ++ brought_by (runs_view made.items)) }
+    ensures fit { OnOk result (CanHave (root_of store.old.manifest) (handles_view written.old.items)
+        → CanHave (root_of store.old.manifest) (handles_view written.new.items)) }
     ensures same { store.new ≡ record store.old { vault = store.new.vault; snapshots = store.new.snapshots; next_group = store.new.next_group } }
     ensures sure { IsSure result }
     ensures counts { (D.state store.old.vault.disk).failures ≤ (D.state store.new.vault.disk).failures }
@@ -131,6 +134,8 @@ fn rewrite_one<D: Disk>(
         → HasWritten D.state start store.old s (Some job) (handles_view written.old.items) groups → AreSources (D.state start.vault.disk) s (job_at job start.jobs.items) place (handles_view run.now.groups.items) given → IsRunIn s given
         → RewritesOne D.state start store.new s (Some job) (handles_view written.old.items) (handles_view written.new.items) groups given store.old.next_group result }
     ensures come { IfOk result (λ r. handles_view written.new.items ≡ handles_view written.old.items ++ (run_view r).come) }
+    ensures fit { OnOk result (CanHave (root_of store.old.manifest) (handles_view written.old.items)
+        → CanHave (root_of store.old.manifest) (handles_view written.new.items)) }
     ensures same { store.new ≡ record store.old { vault = store.new.vault; snapshots = store.new.snapshots; next_group = store.new.next_group } }
     ensures sure { IsSure result }
     ensures counts { (D.state store.old.vault.disk).failures ≤ (D.state store.new.vault.disk).failures }
@@ -155,6 +160,7 @@ fn with_runs<D: Disk>(store: &Core<D>, alloc: Global, runs: &[Run]) -> R<Version
     ensures replaced { IfOk result (λ v. groups_in v ≡ replaced (changes_of (runs_view runs.now)) (root_of store.now.manifest).groups) }
     ensures below { (next : ℕ) → (root_of store.now.manifest).next ≤ next → AllByRecursion (λ (g : Described). g.number < next) (brought_by (runs_view runs.now))
         → IfOk result (λ v. AllByRecursion (λ (g : Described). g.number < next) (groups_in v)) }
+    ensures each { CanHave (root_of store.now.manifest) (brought_by (runs_view runs.now)) → IfOk result (λ v. CanHave (root_of store.now.manifest) (groups_in v)) }
     ensures which { RefusedMemoryOnly result }
 {
     let version = store.manifest.groups();

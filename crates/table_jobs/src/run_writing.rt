@@ -10,7 +10,7 @@ ghost use Rattle.partition.specs.Folders.{CanPartition};
 ghost use Rattle.gather.specs.KeyBuffers.{HoldsRows};
 ghost use Rattle.scan.specs.Left.{rows_held};
 ghost use Rattle.manifest.specs.Groups.{group_view, handles_view, root_of};
-ghost use Rattle.manifest.specs.Root.{stored_of};
+ghost use Rattle.manifest.specs.Root.{CanHave, stored_of};
 ghost use Rattle.table.specs.Table.{Row as TableRow, Key as TableKey, Group as TableGroup, IsRowIn, rows};
 ghost use Rattle.table_reads.specs.Counting.{IsHeld};
 ghost use Rattle.table.specs.State.{State};
@@ -52,6 +52,8 @@ pub(crate) fn write_sources<D: Disk>(
         → AreSources (D.state start.vault.disk) s (job_at job start.jobs.items) place (handles_view sources.now) run → (is : IsRunIn s run)
         → AddsAll D.state start store.new s (Some job) (handles_view written.old.items) (handles_view written.new.items) groups is.key (rows run) (store.old.next_group + length (rows run)) result }
     ensures goes { OnOk result (Goes (handles_view written.old.items) (handles_view written.new.items)) }
+    ensures fit { OnOk result (CanHave (root_of store.old.manifest) (handles_view written.old.items)
+        → CanHave (root_of store.old.manifest) (handles_view written.new.items)) }
     ensures same { store.new ≡ record store.old { vault = store.new.vault; snapshots = store.new.snapshots; next_group = store.new.next_group } }
     ensures sure { IsSure result }
     ensures counts { (D.state store.old.vault.disk).failures ≤ (D.state store.new.vault.disk).failures }
@@ -87,6 +89,8 @@ fn take_source<'a, D: Disk>(
         → AreUnderWay D.state start store.old s job task (handles_view written.old.items) waiting.old (group.rows ++ later) 1
         → StaysUnderWay D.state start store.new s job task (handles_view written.new.items) waiting.new later 1 result }
     ensures goes { OnOk result (Goes (handles_view written.old.items) (handles_view written.new.items)) }
+    ensures fit { OnOk result (CanHave (root_of store.old.manifest) (handles_view written.old.items)
+        → CanHave (root_of store.old.manifest) (handles_view written.new.items)) }
     ensures same { store.new ≡ record store.old { vault = store.new.vault; snapshots = store.new.snapshots; next_group = store.new.next_group } }
     ensures sure { IsSure result }
     ensures counts { (D.state store.old.vault.disk).failures ≤ (D.state store.new.vault.disk).failures }
@@ -119,6 +123,8 @@ fn take_kept<'a, D: Disk>(
         → AreUnderWay D.state start store.old s job task (handles_view written.old.items) waiting.old (rows_view given.items ++ later) 1
         → StaysUnderWay D.state start store.new s job task (handles_view written.new.items) waiting.new later 1 result }
     ensures goes { OnOk result (Goes (handles_view written.old.items) (handles_view written.new.items)) }
+    ensures fit { OnOk result (CanHave (root_of store.old.manifest) (handles_view written.old.items)
+        → CanHave (root_of store.old.manifest) (handles_view written.new.items)) }
     ensures same { store.new ≡ record store.old { vault = store.new.vault; snapshots = store.new.snapshots; next_group = store.new.next_group } }
     ensures sure { IsSure result }
     ensures counts { (D.state store.old.vault.disk).failures ≤ (D.state store.new.vault.disk).failures }
@@ -148,6 +154,8 @@ fn take_read<'a, D: Disk>(
         → AreUnderWay D.state start store.old s job task (handles_view written.old.items) waiting.old (group.rows ++ later) 1
         → StaysUnderWay D.state start store.new s job task (handles_view written.new.items) waiting.new later 1 result }
     ensures goes { OnOk result (Goes (handles_view written.old.items) (handles_view written.new.items)) }
+    ensures fit { OnOk result (CanHave (root_of store.old.manifest) (handles_view written.old.items)
+        → CanHave (root_of store.old.manifest) (handles_view written.new.items)) }
     ensures same { store.new ≡ record store.old { vault = store.new.vault; snapshots = store.new.snapshots; next_group = store.new.next_group } }
     ensures sure { IsSure result }
     ensures counts { (D.state store.old.vault.disk).failures ≤ (D.state store.new.vault.disk).failures }
@@ -175,6 +183,8 @@ fn take_shown<'a, D: Disk>(
         → AreUnderWay D.state start store.old s job task (handles_view written.old.items) waiting.old (given ++ later) 1
         → StaysUnderWay D.state start store.new s job task (handles_view written.new.items) waiting.new later 1 result }
     ensures goes { OnOk result (Goes (handles_view written.old.items) (handles_view written.new.items)) }
+    ensures fit { OnOk result (CanHave (root_of store.old.manifest) (handles_view written.old.items)
+        → CanHave (root_of store.old.manifest) (handles_view written.new.items)) }
     ensures same { store.new ≡ record store.old { vault = store.new.vault; snapshots = store.new.snapshots; next_group = store.new.next_group } }
     ensures sure { (given : List TableRow) → rows_held group.now given → IsSure result }
     ensures counts { (D.state store.old.vault.disk).failures ≤ (D.state store.new.vault.disk).failures }
@@ -205,6 +215,8 @@ fn write_full<'a, D: Disk>(
         → AreUnderWay D.state start store.old s job task (handles_view written.old.items) waiting.old left 0
         → StaysUnderWay D.state start store.new s job task (handles_view written.new.items) waiting.new left 1 result }
     ensures goes { OnOk result (Goes (handles_view written.old.items) (handles_view written.new.items)) }
+    ensures fit { OnOk result (CanHave (root_of store.old.manifest) (handles_view written.old.items)
+        → CanHave (root_of store.old.manifest) (handles_view written.new.items)) }
     ensures same { store.new ≡ record store.old { vault = store.new.vault; snapshots = store.new.snapshots; next_group = store.new.next_group } }
     ensures sure { IsSure result }
     ensures counts { (D.state store.old.vault.disk).failures ≤ (D.state store.new.vault.disk).failures }
@@ -231,6 +243,8 @@ fn write_last<D: Disk>(
         → AreUnderWay D.state start store.old s job task (handles_view written.old.items) waiting.entry [] 1
         → AddsAll D.state start store.new s (Some job) task.was (handles_view written.new.items) task.groups task.key task.given task.most result }
     ensures goes { OnOk result (Goes (handles_view written.old.items) (handles_view written.new.items)) }
+    ensures fit { OnOk result (CanHave (root_of store.old.manifest) (handles_view written.old.items)
+        → CanHave (root_of store.old.manifest) (handles_view written.new.items)) }
     ensures same { store.new ≡ record store.old { vault = store.new.vault; snapshots = store.new.snapshots; next_group = store.new.next_group } }
     ensures sure { IsSure result }
     ensures counts { (D.state store.old.vault.disk).failures ≤ (D.state store.new.vault.disk).failures }
@@ -257,6 +271,8 @@ fn write_part_of_run<D: Disk>(
         → key_view part.entry.key ≡ key → HoldsRows (without_keys s.table.keys s.table.schema) (map (row_without_keys s.table.keys) given) part.entry
         → AddsOne D.state start store.new s (Some job) (handles_view written.old.items) (handles_view written.new.items) groups store.old.next_group key given result }
     ensures goes { OnOk result (Goes (handles_view written.old.items) (handles_view written.new.items)) }
+    ensures fit { OnOk result (CanHave (root_of store.old.manifest) (handles_view written.old.items)
+        → CanHave (root_of store.old.manifest) (handles_view written.new.items)) }
     ensures same { store.new ≡ record store.old { vault = store.new.vault; snapshots = store.new.snapshots; next_group = store.new.next_group } }
     ensures sure { IsSure result }
     ensures counts { (D.state store.old.vault.disk).failures ≤ (D.state store.new.vault.disk).failures }

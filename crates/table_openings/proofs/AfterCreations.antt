@@ -31,11 +31,11 @@ use Rattle.table_commits.proofs.SparedDisks.{off_place}
 use Rattle.table_commits.proofs.NextRootsKept.{next_kept_since}
 
 pub is_first : (schema : Fields) (keys : List KeyColumn) (first : First) → root_of first.manifest ≡ first_root schema keys → IsDescription (root_of first.manifest)
-    → (IsDescription (root_of first.manifest) → RootMeans first.root.items (root_of first.manifest)) → state_of first.versions ≡ start (root_of first.manifest).groups → IsFirst schema keys first
+    → RootMeans first.root.items (root_of first.manifest) → state_of first.versions ≡ start (root_of first.manifest).groups → IsFirst schema keys first
 is_first schema keys first made described means versions = record {
   described = subst (λ (r : Root). IsDescription r) made described;
   manifest = made;
-  means = subst (λ (r : Root). RootMeans first.root.items r) made (means described);
+  means = subst (λ (r : Root). RootMeans first.root.items r) made means;
   versions = versions ∙ ap (λ (r : Root). start r.groups) made;
 }
 

@@ -25,7 +25,7 @@ use Rattle.table_state.specs.Starting.{IsStarted}
 use Rattle.table_openings.specs.Opening.{LeavesTables, HasRoomForAll, IsOpened, ReadsRootAs, LeavesAllOrCleans}
 use Rattle.table_commits.proofs.StateCarriedOver.{past_of}
 use Rattle.table_openings.proofs.StartedStores as started
-use Rattle.table_reads.proofs.FilesLeftAlone.{all_here}
+use Rattle.table_commits.proofs.DisksLeftAlone.{all_here}
 use Rattle.table_openings.proofs.AfterReopenings.{room_left, memory_only}
 
 module _ (old new : DiskState) (moments : LeavesAfter SameTable old new) (sound : IsSound old) (clear : LeavesWays old new) (room : HasRoomForAll old) where

@@ -18,6 +18,7 @@ use Rattle.snapshots.specs.State.{State as Versions, File, file_of, is_same, nam
 use Rattle.snapshots.specs.Views.{state_of}
 use Rattle.table.specs.Table.{Table, IsTable}
 use Rattle.table.specs.State.{State, opened}
+use Rattle.table.specs.Refusing.{no_calls}
 use Rattle.table_state.specs.declared.standing.Core.{Core}
 use Rattle.table_state.specs.declared.jobs.OpenJob.{OpenJob}
 use Rattle.table_state.specs.declared.jobs.OpenCursor.{OpenCursor}
@@ -106,6 +107,6 @@ module _ {D : Type 0} (state : D → DiskState) (store : Core D) (o : WriteOptio
 
     pub stands : Stands state store now
     stands = record {
-      reached = record { options = o; table = t; is_table = valid; calls = []; answers = []; run = refl };
+      reached = record { options = o; table = t; is_table = valid; calls = []; answers = []; run = no_calls };
       shows = shows;
     }

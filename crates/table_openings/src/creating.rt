@@ -1,6 +1,6 @@
 //! The first root of a table.
 
-ghost use Rattle.std.specs.Prelude.{◌≡◌, ◌≢◌, ◌⊎◌, ◌≤◌, ◌↔◌, true, None, Err, IfOk, IfErr, OnOk};
+ghost use Rattle.std.specs.Prelude.{◌≡◌, ◌≢◌, ◌⊎◌, ◌≤◌, ◌↔◌, None, Err, IfOk, IfErr, OnOk};
 ghost use Rattle.bits.specs.Refusals.{RefusedOnly};
 ghost use Rattle.schema.specs.Keys.{AreKeys, key_columns_view};
 ghost use Rattle.disk.specs.State.{content};
@@ -17,16 +17,13 @@ ghost use Rattle.table_openings.specs.Creating.{IsFirst, IsFirstOn, IsNotNew, Is
 use crate::laws::{heavy_roots_are_too_much, paths_are_apart};
 use bits::{R, Refusal};
 use disk::Disk;
-use footer::WriteOptions;
+use footer::{WriteOptions, is_out_of_range};
 use manifest::Manifest;
 use schema::{KeyColumn, Schema};
 use snapshots::Snapshots;
 use std::alloc::Global;
 use table_state::first_versions;
 use vault::Vault;
-
-/// The most rows that a group of a file may have.
-const MOST_GROUP_ROWS: u32 = 16_777_216;
 
 /// A new table: its description, the bytes of its root, and its versions.
 #[derive(Drop)]
@@ -137,15 +134,4 @@ fn make_first(alloc: Global, schema: Schema, keys: Vec<KeyColumn>) -> R<First>
         root,
         versions,
     })
-}
-
-/// Whether the options are refused for good.
-pub(crate) fn is_out_of_range(options: &WriteOptions) -> bool
-    ensures within { (result ≡ true → ⊥) → IsOutOfRange options.now → ⊥ }
-    ensures out { result ≡ true → IsOutOfRange options.now }
-{
-    options.group_rows == 0
-        || options.group_rows > MOST_GROUP_ROWS
-        || options.page_rows == 0
-        || (options.page_version != 1 && options.page_version != 2)
 }

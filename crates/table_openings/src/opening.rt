@@ -16,11 +16,11 @@ ghost use Rattle.table_state.specs.Spares.{HasRoom};
 ghost use Rattle.table_state.specs.Stands.{Stands};
 ghost use Rattle.table_openings.specs.Opening.{disk_of, AreNamedKeys, HasNoRoot, HasRoomForAll, LeavesNoneOr, LeavesTables, IsNotCreated, IsCreatable, IsOpened, IsNotOpened, LeavesAllOrCleans};
 
-use crate::creating::{First, is_out_of_range, put_new};
+use crate::creating::{First, put_new};
 use crate::laws::paths_are_apart;
 use bits::Refusal;
 use disk::Disk;
-use footer::WriteOptions;
+use footer::{WriteOptions, is_out_of_range};
 use partition::key_columns;
 use schema::Schema;
 use std::alloc::Global;
@@ -55,7 +55,7 @@ pub fn create<D: Disk>(
     ensures unchanged { (D.state disk).honest → content (D.state disk).seen root_path ≢ None → LeavesAll (D.state disk) (D.state (disk_of result)) }
     ensures cause { (D.state disk).honest → (keys : List KeyColumn) → AreNamedKeys schema (map string_bytes names.now) keys → HasRoom keys (D.state disk)
         → IfErr result (λ e. (e.1 ≡ Refusal.Device) ⊎ (e.1 ≡ Refusal.InDoubt) → HasFailed (D.state disk) (D.state e.0)) }
-    // InDoubt comes only after the first root was whole beside its place.
+    // InDoubt comes only after a next root was whole in whatever a stop could leave.
     ensures in_doubt { (D.state disk).honest → IfErr result (λ e. e.1 ≡ Refusal.InDoubt → WasNextKept (D.state disk) (D.state e.0)) }
     ensures counts { (D.state disk).failures ≤ (D.state (disk_of result)).failures }
     ensures honest { (D.state disk).honest ↔ (D.state (disk_of result)).honest }

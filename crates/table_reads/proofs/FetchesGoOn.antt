@@ -315,8 +315,3 @@ module _ {D : Type 0} (state : D → DiskState) (store : Core D) (n : ℕ) (c : 
     goes = λ d version o g sees. subst (λ (x : OpenCursor). Sees store x version → Went {T = T} state store (record store { vault = vault }) n x version (Err e)) (found_one d g) (λ see. (at, goes version see.keys see.held)) sees;
     none = λ g. absurd (not_none g);
   }
-
--- what is refused for memory alone
-pub memory_so : (e : Refusal) → HasCause (λ f. ⊥) e → (P : Refusal → Type 0) → P Memory → P e
-memory_so Memory h P p = p
-memory_so e h P p = absurd h

@@ -5,17 +5,7 @@ use Rattle.vault.specs.Calls.{LeavesAll}
 use Rattle.vault.specs.declared.vault.Vault.{Vault}
 use Rattle.table_state.specs.declared.standing.Core.{Core}
 use Rattle.table_commits.specs.Keeping.{LeavesFiles}
-use Rattle.vault.specs.Views.{Same}
-use Rattle.vault.proofs.Moments.{nothing_yet, stays_rooted_here, stays_clear_here}
-
-pub all_here : (disk : DiskState) → LeavesAll disk disk
-all_here disk = record {
-  moments = nothing_yet Same disk (λ u q. refl);
-  rooted = λ rooted. stays_rooted_here disk rooted;
-  clear = λ q clear. stays_clear_here disk q clear;
-  names = λ q. refl;
-  seen = λ q. refl;
-}
+use Rattle.table_commits.proofs.DisksLeftAlone.{all_here}
 
 module _ {D : Type 0} (state : D → DiskState) (old : Core D) where
   -- the disk is as it was

@@ -7,7 +7,9 @@ use Rattle.vault.specs.Calls.{HasFailed}
 use Rattle.vault.proofs.Chained.{refused}
 use Rattle.gather.specs.declared.key_buffer.KeyBuffer.{KeyBuffer}
 use Rattle.manifest.specs.declared.group.Group.{Group as CodeGroup}
-use Rattle.manifest.specs.Groups.{Group as FileGroup, root_of, groups_in, handles_view}
+use Rattle.manifest.specs.Groups.{Group as FileGroup, Root, root_of, groups_in, handles_view}
+use Rattle.manifest.specs.Root.{CanHave}
+use Rattle.table_state.specs.declared.standing.Core.{Core}
 use Rattle.planning.specs.Told.{IsNextOf}
 use Rattle.table.specs.InOrder.{in_order}
 use Rattle.table.specs.Calls.{append, done}
@@ -64,7 +66,14 @@ commit_version-requires g c =
     let next = c.next_after-next.result in
     let falls = subst (λ (n : ℕ). n ≤ next) c.next.ensures c.next_after-next.ensures.never_falls in
     let above = subst (λ (hs : List (Rc CodeGroup Global)). AllByRecursion (λ (f : FileGroup). f.number < next) (handles_view hs)) (c.as_slice-3.ensures.value ∙ sym c.as_slice-2.ensures.value) c.next_after-next.ensures.above in
-    record { below = c.in_ok-groups.ensures.below next falls above }
+    let old = c.args.store.now in
+    let mid = c.write_groups.new.store in
+    let same = ap (λ (st : Core g.row.D.Denot). root_of st.manifest) c.in_ok-written.ensures.same in
+    let come = subst (λ (hs : List (Rc CodeGroup Global)). CanHave (root_of old.manifest) (handles_view hs)) (sym c.as_slice-2.ensures.value) c.in_ok-written.ensures.fit in
+    record {
+      below = c.in_ok-groups.ensures.below next falls above;
+      each = c.in_ok-groups.ensures.each (subst (λ (r : Root). CanHave r (handles_view c.as_slice-2.result.now)) (sym same) come);
+    }
 
 pub returns-in_err-commit_version-clause-acts : goal.returns-in_err-commit_version-clause-acts
 returns-in_err-commit_version-clause-acts g c honest s given stands is_open fine some many hold =

@@ -8,8 +8,8 @@ use Rattle.vault.proofs.Chained.{refused}
 use Rattle.partition.specs.Splitting.{KeyRows}
 use Rattle.gather.specs.declared.key_buffer.KeyBuffer.{KeyBuffer}
 use Rattle.gather.specs.KeyBuffers.{HoldsRows, Hold}
-use Rattle.manifest.specs.Groups.{Group as FileGroup, root_of, handles_view}
-use Rattle.manifest.specs.Root.{stored_of}
+use Rattle.manifest.specs.Groups.{Group as FileGroup, Root, root_of, handles_view}
+use Rattle.manifest.specs.Root.{CanHave, stored_of}
 use Rattle.table.specs.Table.{Key}
 use Rattle.table_state.specs.declared.standing.Core.{Core}
 use Rattle.table_commits.specs.Filling.{HasWritten, EndsWith, written_group}
@@ -23,6 +23,7 @@ loop-group-init g c = record {
   same = refl;
   failures = omega arith;
   honest = (λ h. h, λ h. h);
+  fit = subst (λ (fs : List FileGroup). CanHave (root_of c.args.store.now.manifest) fs) (sym (ap handles_view c.new-written.ensures.items)) tt;
   fills = λ honest start s rows is_open fine holds has same. (
     holds.groups,
     subst (λ (bs : List KeyBuffer). Hold (stored_of (root_of c.args.store.now.manifest)) bs holds.groups) (sym c.into_iter-group-iterator.ensures.into_iter_gives.0) holds.held,
@@ -64,6 +65,7 @@ loop-group-preserved g c =
       same = done.ensures.same ∙ ap (λ (st : Core g.row.D.Denot). record st { vault = new.vault; snapshots = new.snapshots; next_group = new.next_group }) so_far.same;
       failures = omega (arith, so_far.failures, done.ensures.counts);
       honest = both so_far.honest done.ensures.honest;
+      fit = subst (λ (r : Root). CanHave r (handles_view at.written.items) → CanHave r (handles_view c.write_gathered.new.written.items)) (ap (λ (st : Core g.row.D.Denot). root_of st.manifest) so_far.same) done.ensures.fit so_far.fit;
       fills = λ honest start s rows is_open fine holds has same.
           let fields = stored_of (root_of c.args.store.now.manifest) in
           let files = handles_view at.written.items in

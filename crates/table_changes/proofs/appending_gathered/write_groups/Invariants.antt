@@ -3,7 +3,7 @@ use Rattle.std.specs.Vec.Iter.{into_iter_items, into_iter_len}
 use Rattle.partition.specs.Splitting.{KeyRows}
 use Rattle.gather.specs.KeyBuffers.{Hold, HoldGroups}
 use Rattle.manifest.specs.Groups.{root_of, handles_view}
-use Rattle.manifest.specs.Root.{stored_of}
+use Rattle.manifest.specs.Root.{CanHave, stored_of}
 use Rattle.table.specs.Table.{Row}
 use Rattle.table.specs.State.{State}
 use Rattle.table_state.specs.declared.standing.Core.{Core}
@@ -18,6 +18,7 @@ invariant-loop-group g l = record {
   same : l.store ≡ record l.fn.store { vault = l.store.vault; snapshots = l.store.snapshots; next_group = l.store.next_group };
   failures : (g.D.Disk.state l.fn.store.vault.disk).failures ≤ (g.D.Disk.state l.store.vault.disk).failures;
   honest : (g.D.Disk.state l.fn.store.vault.disk).honest ↔ (g.D.Disk.state l.store.vault.disk).honest;
+  fit : CanHave (root_of l.fn.store.manifest) (handles_view l.written.items);
   fills : (g.D.Disk.state l.fn.store.vault.disk).honest → (start : Core g.row.D.Denot) (s : State) (rows : List Row) → s.closed ≡ false → AreFine s rows
       → HoldGroups s.table.keys s.options.group_rows (stored_of (root_of l.fn.store.manifest)) rows l.fn.groups.items → HasWritten g.D.Disk.state start l.fn.store s l.job [] [] → l.fn.store.next_group ≡ s.next_group
       → (left : List KeyRows) × Hold (stored_of (root_of l.fn.store.manifest)) (into_iter_items l.group-iterator) left

@@ -6,6 +6,8 @@ use Rattle.bits.specs.declared.refusal.Refusal.{Refusal}
 use Rattle.schema.specs.Cutting.{is_among}
 use Rattle.vault.proofs.Chained.{refused}
 use Rattle.manifest.specs.Groups.{Group as FileGroup, root_of, groups_in}
+use Rattle.manifest.specs.Root.{CanHave, stored_of}
+use Rattle.manifest.specs.Records.{IsGroup}
 use Rattle.planning.specs.Told.{numbers_of}
 use Rattle.planning.specs.Replaced.{without}
 use Rattle.table.specs.Calls.{remove_groups, done}
@@ -91,8 +93,11 @@ pub commit_version-requires : goal.commit_version-requires
 commit_version-requires g c =
     let next = c.next-next.ensures in
     let ns = c.args.numbers.now in
+    let root = root_of c.args.store.now.manifest in
     record {
       below = subst (λ (n : ℕ). AllByRecursion (λ (f : FileGroup). f.number < n) (groups_in c.in_ok-groups.field-0.groups)) (sym next)
           (subst (λ (gs : List FileGroup). AllByRecursion (λ (f : FileGroup). f.number < (root_of c.args.store.now.manifest).next) gs) (sym c.in_ok-groups.ensures.left)
           (all_kept (λ (f : FileGroup). not (is_among ns f.number)) (λ (f : FileGroup). f.number < (root_of c.args.store.now.manifest).next) (groups_in c.groups-2.result.now) c.groups-2.ensures.below));
+      each = subst (λ (gs : List FileGroup). CanHave root gs) (sym c.in_ok-groups.ensures.left)
+          (all_kept (λ (f : FileGroup). not (is_among ns f.number)) (IsGroup root.keys (stored_of root)) (groups_in c.groups-2.result.now) c.groups-2.ensures.each);
     }

@@ -5,7 +5,8 @@ use Rattle.bits.specs.declared.refusal.Refusal.TheVariants.{Device, InDoubt, Mem
 use Rattle.vault.specs.Calls.{HasFailed}
 use Rattle.vault.proofs.Chained.{refused}
 use Rattle.filter.specs.Test.{tests_in}
-use Rattle.manifest.specs.Groups.{Group as FileGroup, root_of, groups_in}
+use Rattle.manifest.specs.Groups.{Group as FileGroup, Root, root_of, groups_in}
+use Rattle.manifest.specs.Root.{CanHave}
 use Rattle.planning.specs.Numbered.{brought}
 use Rattle.planning.specs.Replaced.{changes_view, replaced}
 use Rattle.planning.specs.Told.{IsNextOf}
@@ -13,6 +14,7 @@ use Rattle.planning.specs.declared.change.Change.{Change as CodeChange}
 use Rattle.table.specs.Calls.{remove, done}
 use Rattle.table.specs.Refusing.{is_failure}
 use Rattle.table.specs.Views.{answered}
+use Rattle.table_state.specs.declared.standing.Core.{Core}
 use Rattle.table_state.specs.Promises.{ActsFrom}
 use Rattle.table_commits.proofs.OneFileMore.{failed_since}
 use Rattle.table_commits.proofs.GroupRemovals.{failure_of, memory_only}
@@ -90,7 +92,13 @@ commit_version-requires g c =
     let next = c.next_with-next.result in
     let falls = subst (λ (n : ℕ). n ≤ next) c.next.ensures c.next_with-next.ensures.never_falls in
     let above = subst (λ (cs : List CodeChange). AllByRecursion (λ (f : FileGroup). f.number < next) (brought (changes_view cs))) (c.as_slice-2.ensures.value ∙ sym c.as_slice.ensures.value) c.next_with-next.ensures.above in
-    record { below = c.in_ok-groups.ensures.below next falls above }
+    let old = c.args.store.now in
+    let same = ap (λ (st : Core g.row.D.Denot). root_of st.manifest) c.in_ok-removed.ensures.same in
+    let come = subst (λ (cs : List CodeChange). CanHave (root_of old.manifest) (brought (changes_view cs))) (sym c.as_slice.ensures.value) c.in_ok-removed.ensures.fit in
+    record {
+      below = c.in_ok-groups.ensures.below next falls above;
+      each = c.in_ok-groups.ensures.each (subst (λ (r : Root). CanHave r (brought (changes_view c.as_slice.result.now))) (sym same) come);
+    }
 
 pub returns-in_err-commit_version-clause-acts : goal.returns-in_err-commit_version-clause-acts
 returns-in_err-commit_version-clause-acts g c honest s terms stands is_open fine made =

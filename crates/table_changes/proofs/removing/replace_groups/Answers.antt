@@ -3,8 +3,10 @@ use Rattle.lists.proofs.Booleans.{iff_through as both}
 use Rattle.vault.proofs.Chained.{refused}
 use Rattle.filter.specs.Test.{tests_in}
 use Rattle.filter.specs.Deciding.{satisfies as all_satisfied}
-use Rattle.manifest.specs.Groups.{Group as FileGroup, root_of}
-use Rattle.planning.specs.Replaced.{changes_view}
+use Rattle.manifest.specs.Groups.{Group as FileGroup, Root, root_of}
+use Rattle.manifest.specs.Root.{CanHave}
+use Rattle.planning.specs.Numbered.{brought}
+use Rattle.planning.specs.Replaced.{Change, changes_view}
 use Rattle.table_state.specs.declared.standing.Core.{Core}
 use Rattle.table_changes.specs.Removing.{ReplacesAll}
 use Rattle.table_changes.proofs.GroupsReplaced.{at_first, at_last}
@@ -15,6 +17,7 @@ loop-place-init g c = record {
   same = refl;
   failures = omega arith;
   honest = (λ h. h, λ h. h);
+  fit = subst (λ (cs : List Change). CanHave (root_of c.args.store.now.manifest) (brought cs)) (sym (ap changes_view c.new.ensures.items)) tt;
   replaces = λ honest s terms described is_open made has same. at_first g.D.Disk.state c.args.store.now s has same (all_satisfied (tests_in c.args.filter.now)) _ (ap changes_view c.new.ensures.items) refl;
 }
 
@@ -32,6 +35,7 @@ loop-place-preserved g c =
       same = done.ensures.same ∙ ap (λ (x : Core g.row.D.Denot). record x { vault = new.vault; snapshots = new.snapshots; next_group = new.next_group }) so_far.same;
       failures = omega (arith, so_far.failures, done.ensures.counts);
       honest = both so_far.honest done.ensures.honest;
+      fit = subst (λ (r : Root). CanHave r (brought (changes_view c.loop-place.removed.changes.items)) → CanHave r (brought (changes_view c.replace_group.new.removed.changes.items))) manifest done.ensures.fit so_far.fit;
       replaces = λ honest s terms described is_open made has same. done.ensures.replaces (so_far.honest.0 honest) old s terms (described ∙ sym manifest) is_open made within (so_far.replaces honest s terms described is_open made has same);
     }
 

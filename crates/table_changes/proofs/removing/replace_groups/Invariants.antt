@@ -4,6 +4,9 @@ use Rattle.filter.specs.Test.{tests_in}
 use Rattle.filter.specs.Terms.{tests_of}
 use Rattle.filter.specs.Deciding.{satisfies as all_satisfied}
 use Rattle.manifest.specs.Groups.{root_of}
+use Rattle.manifest.specs.Root.{CanHave}
+use Rattle.planning.specs.Numbered.{brought}
+use Rattle.planning.specs.Replaced.{changes_view}
 use Rattle.table.specs.Deciding.{Filter as Terms}
 use Rattle.table.specs.State.{State}
 use Rattle.table_commits.specs.Filling.{HasWritten}
@@ -15,6 +18,7 @@ invariant-loop-place g l = record {
   same : l.store ≡ record l.fn.store { vault = l.store.vault; snapshots = l.store.snapshots; next_group = l.store.next_group };
   failures : (g.D.Disk.state l.fn.store.vault.disk).failures ≤ (g.D.Disk.state l.store.vault.disk).failures;
   honest : (g.D.Disk.state l.fn.store.vault.disk).honest ↔ (g.D.Disk.state l.store.vault.disk).honest;
+  fit : CanHave (root_of l.fn.store.manifest) (brought (changes_view l.removed.changes.items));
   replaces : (g.D.Disk.state l.fn.store.vault.disk).honest → (s : State) (terms : Terms) → root_of l.table ≡ root_of l.fn.store.manifest → s.closed ≡ false → tests_of (leaves_of s.table.schema) terms ≡ Ok (tests_in l.filter)
       → HasWritten g.D.Disk.state l.fn.store l.fn.store s None [] [] → l.fn.store.next_group ≡ s.next_group
       → HasReplaced g.D.Disk.state l.fn.store l.store s (all_satisfied (tests_in l.filter)) l.place l.removed;

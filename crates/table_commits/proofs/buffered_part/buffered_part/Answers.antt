@@ -66,6 +66,13 @@ returns-clause-made c stored held part are =
       means = subst (λ (x : CodeGroup). PartMeans root.keys (stored_of root) (group_view x) c.in_ok-bytes.bytes.items held) (sym same) (subst (λ (gs : Fields). PartMeans root.keys gs (group_view c.in-Ok.group) c.in_ok-bytes.bytes.items held) c.stored.ensures means);
     }
 
+pub returns-clause-is : goal.returns-clause-is
+returns-clause-is c =
+    let root = root_of c.args.table.now in
+    let key = key_view c.args.buffer.key in
+    let can = subst (λ (ks : List KeyColumn). CanPartition ks key) c.keys.ensures.are c.in_ok-path.ensures.can in
+    subst (λ (x : CodeGroup). IsGroup root.keys (stored_of root) (group_view x)) (sym c.in_ok-group.ensures.ok) (subst (λ (gs : Fields). IsGroup root.keys gs (group_view c.in-Ok.group)) c.stored.ensures (c.in-Ok.ensures.is root.keys can))
+
 -- why the bytes of rows that are held were not made
 of_bytes : (root : Root) (options : WriteOptions) (key : Key) (stored : List Row) (e : Refusal) → HasCause IsOfRows e → (IsFault e → ⊥) → (e ≡ Limit → IsOutOfRange options ⊎ IsTooMuch (stored_of root) options stored) → HasCause (IsUnfit root options key stored) e
 of_bytes root options key stored RowShape which only limit = absurd (only tt)

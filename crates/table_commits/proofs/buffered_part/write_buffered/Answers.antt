@@ -1,5 +1,12 @@
 use Rattle.std.proofs.Common.{◌≡◌, List, refl, sym, subst}
-use Rattle.manifest.specs.Groups.{root_of}
+use Rattle.std.specs.Rc.{rc_value}
+use Rattle.std.specs.declared.rc.Rc.{Rc}
+use Rattle.std.specs.declared.alloc.Global.{Global}
+use Rattle.std.proofs.lemmas.Result.{IfOk-weaker}
+use Rattle.manifest.specs.declared.group.Group.{Group as CodeGroup}
+use Rattle.manifest.specs.Groups.{root_of, group_view}
+use Rattle.manifest.specs.Root.{stored_of}
+use Rattle.manifest.specs.Records.{IsGroup}
 use Rattle.schema.specs.Keys.{KeyColumn, AreRowsOf}
 use Rattle.schema.specs.Views.{key_view}
 use Rattle.vault.proofs.Chained.{refused}
@@ -30,3 +37,9 @@ returns-clause-writes g c honest s stored held shows is_open there holds are =
     let made = c.in_ok-part.ensures.made stored held holds (subst (λ (ks : List KeyColumn). AreRowsOf ks key stored held) (sym shows.keys) are) in
     let ready = part_for (root_of old.manifest).keys s.table.keys (root_of old.manifest).schema s.table.schema old.next_group s.next_group key held part shows.keys shows.schema shows.next_group made in
     c.put_part.ensures.writes honest s key held shows is_open there ready
+
+pub returns-clause-is : goal.returns-clause-is
+returns-clause-is g c =
+    let root = root_of c.args.store.now.manifest in
+    IfOk-weaker c.put_part.result _ (λ (h : Rc CodeGroup Global). IsGroup root.keys (stored_of root) (group_view (rc_value h)))
+    (λ h same. subst (λ (x : CodeGroup). IsGroup root.keys (stored_of root) (group_view x)) (sym same) c.in_ok-part.ensures.is) c.put_part.ensures.group

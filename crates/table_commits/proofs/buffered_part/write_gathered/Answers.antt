@@ -9,6 +9,9 @@ use Rattle.schema.specs.Views.{key_view}
 use Rattle.vault.proofs.Chained.{refused}
 use Rattle.manifest.specs.declared.group.Group.{Group as CodeGroup}
 use Rattle.manifest.specs.Groups.{Group as FileGroup, root_of, group_view, handles_view}
+use Rattle.manifest.specs.Root.{CanHave, stored_of}
+use Rattle.manifest.specs.Records.{IsGroup}
+use Rattle.lists.proofs.Lists.{all_append}
 use Rattle.table_state.specs.declared.standing.Core.{Core}
 use Rattle.table_commits.specs.Gathering.{HoldsPart}
 use Rattle.table_commits.specs.Writing.{IsPartRefusal, counted}
@@ -76,3 +79,10 @@ pub returns-clause-goes : goal.returns-clause-goes
 returns-clause-goes g c =
     let h = c.in_ok-group.group in
     (group_view (rc_value h) ∷ [], ap handles_view c.in_ok-push.ensures.items ∙ map_push (λ (x : Rc CodeGroup Global). group_view (rc_value x)) c.args.written.now.items h)
+
+pub returns-clause-fit : goal.returns-clause-fit
+returns-clause-fit g c = λ were.
+    let root = root_of c.args.store.now.manifest in
+    let h = c.in_ok-group.group in
+    subst (λ (fs : List FileGroup). CanHave root fs) (sym (ap handles_view c.in_ok-push.ensures.items ∙ map_push (λ (x : Rc CodeGroup Global). group_view (rc_value x)) c.args.written.now.items h))
+    (all_append (IsGroup root.keys (stored_of root)) (handles_view c.args.written.now.items) (group_view (rc_value h) ∷ []) were (c.in_ok-group.ensures.is, tt))

@@ -8,6 +8,7 @@ use Rattle.vault.proofs.Chained.{refused}
 use Rattle.partition.specs.Splitting.{key_rows_view}
 use Rattle.manifest.specs.declared.group.Group.{Group as CodeGroup}
 use Rattle.manifest.specs.Groups.{Group as FileGroup, root_of, groups_in, handles_view}
+use Rattle.manifest.specs.Root.{CanHave}
 use Rattle.planning.specs.Told.{IsNextOf}
 use Rattle.table.specs.InOrder.{in_order}
 use Rattle.table.specs.State.{ended_at}
@@ -140,12 +141,38 @@ returns-in_err-groups-clause-cause g c honest s stands is_open fine is_append so
     (subst (λ (e : Refusal). is_failure (answered {T = ℕ} (λ x. done x) (Err e)) ≡ true → HasFailed (g.D.Disk.state old.vault.disk) (g.D.Disk.state c.write_rest.new.store.vault.disk)) (sym (memory_only c.in_err-groups.field-0.0 c.in_err-groups.ensures.which))
     (λ h. absurd (cc)))
 
+pub returns-in_err-check_groups-clause-acts : goal.returns-in_err-check_groups-clause-acts
+returns-in_err-check_groups-clause-acts g c honest s stands is_open fine is_append something =
+    let old = c.args.store.now in
+    let n = c.args.job in
+    let t = found_there g.D.Disk.state s n old is_append in
+    let waits = wait g.D.Disk.state old s stands is_open n t.x t.a t.there t.is in
+    let told = c.in_ok-waiting.ensures.told ∙ ap (λ js. completed_buffers c.stored.result.now (waiting_at (job_at n js))) c.as_slice.ensures.value in
+    let begun = filled_at g.D.Disk.state old s stands is_open n t c.stored.result.now (handles_view c.new-rests.result.items) (map key_rows_view c.in_ok-waiting.waiting.items) (ap handles_view c.new-rests.ensures.items) c.stored.ensures told in
+    let mid = c.write_rest.new.store in
+    let filled = c.in_ok-write_rest.ensures.ends honest old s waits is_open begun in
+    let fit = c.rows_of_parts_fit.ensures in
+    let same = ap (λ (x : Core g.row.D.Denot). x.jobs) c.in_ok-write_rest.ensures.same in
+    refused (λ r. ActsFrom g.D.Disk.state old mid (commit n) (answered {T = ℕ} (λ x. done x) r) s) c.from_residual-in_err-check_groups.result _ c.from_residual-in_err-check_groups.ensures.1
+    (subst (λ (e : Refusal). ActsFrom g.D.Disk.state old mid (commit n) (answered {T = ℕ} (λ x. done x) (Err e)) s) (sym (memory_only c.in_err-check_groups.field-0.0 c.in_err-check_groups.ensures.which))
+    (poor_after g.D.Disk.state old s stands is_open n fine t.x t.a t.there t.is fit something mid (handles_view c.write_rest.new.written.items) filled same))
+
+pub returns-in_err-check_groups-clause-cause : goal.returns-in_err-check_groups-clause-cause
+returns-in_err-check_groups-clause-cause g c honest s stands is_open fine is_append something =
+    let old = c.args.store.now in
+    refused (λ r. is_failure (answered {T = ℕ} (λ x. done x) r) ≡ true → HasFailed (g.D.Disk.state old.vault.disk) (g.D.Disk.state c.write_rest.new.store.vault.disk)) c.from_residual-in_err-check_groups.result _ c.from_residual-in_err-check_groups.ensures.1
+    (subst (λ (e : Refusal). is_failure (answered {T = ℕ} (λ x. done x) (Err e)) ≡ true → HasFailed (g.D.Disk.state old.vault.disk) (g.D.Disk.state c.write_rest.new.store.vault.disk)) (sym (memory_only c.in_err-check_groups.field-0.0 c.in_err-check_groups.ensures.which))
+    (λ h. absurd (cc)))
+
 pub commit_version-requires : goal.commit_version-requires
 commit_version-requires g c =
     let next = c.next_after-next.result in
     let falls = subst (λ (k : ℕ). k ≤ next) c.next.ensures c.next_after-next.ensures.never_falls in
     let above = subst (λ (hs : List (Rc CodeGroup Global)). AllByRecursion (λ (f : FileGroup). f.number < next) (handles_view hs)) (c.as_slice-6.ensures.value ∙ sym c.as_slice-5.ensures.value) c.next_after-next.ensures.above in
-    record { below = c.in_ok-groups.ensures.below next falls above }
+    record {
+      below = c.in_ok-groups.ensures.below next falls above;
+      each = c.in_ok-groups.ensures.each (subst (λ (hs : List (Rc CodeGroup Global)). CanHave (root_of c.write_rest.new.store.manifest) (handles_view hs)) (c.as_slice-7.ensures.value ∙ sym c.as_slice-5.ensures.value) c.in_ok-check_groups.ensures.can);
+    }
 
 pub returns-in_err-commit_version-clause-acts : goal.returns-in_err-commit_version-clause-acts
 returns-in_err-commit_version-clause-acts g c honest s stands is_open fine is_append something =

@@ -16,7 +16,7 @@ use Rattle.table_state.specs.declared.jobs.OpenJob.{OpenJob}
 use Rattle.table_state.specs.Lookups.{job_at}
 use Rattle.table_state.specs.Promises.{ActsFrom}
 use Rattle.table_jobs.specs.Rewritten.{runs_at, numbers_of_runs}
-use Rattle.table_reads.proofs.FetchesGoOn.{memory_so}
+use Rattle.table_commits.proofs.GroupRemovals.{memory_so}
 use Rattle.table_jobs.proofs.RewriteSources.{fault_is, runs_told}
 use Rattle.table_jobs.proofs.RewriteEnds.{poor_first}
 use Rattle.table_jobs.proofs.rewritten.commit_rewrite.Goals as goal

@@ -7,7 +7,8 @@ use Rattle.bits.specs.declared.refusal.Refusal.{Refusal}
 use Rattle.vault.specs.Calls.{HasFailed}
 use Rattle.vault.proofs.Chained.{refused}
 use Rattle.manifest.specs.declared.group.Group.{Group as CodeGroup}
-use Rattle.manifest.specs.Groups.{Group as FileGroup, root_of, groups_in, handles_view}
+use Rattle.manifest.specs.Groups.{Group as FileGroup, Root, root_of, groups_in, handles_view}
+use Rattle.manifest.specs.Root.{CanHave}
 use Rattle.planning.specs.declared.change.Run.{Run as CodeRun}
 use Rattle.planning.specs.Replaced.{runs_view, changes_of, replaced}
 use Rattle.planning.specs.Numbered.{brought_by}
@@ -21,8 +22,7 @@ use Rattle.table_state.specs.declared.standing.Core.{Core}
 use Rattle.table_commits.specs.Dropping.{rows_in}
 use Rattle.table_state.specs.Promises.{ActsFrom}
 use Rattle.table_commits.proofs.OneFileMore.{failed_since}
-use Rattle.table_commits.proofs.GroupRemovals.{failure_of}
-use Rattle.table_reads.proofs.FetchesGoOn.{memory_so}
+use Rattle.table_commits.proofs.GroupRemovals.{failure_of, memory_so}
 use Rattle.table_jobs.proofs.RewriteSources.{starts, held, all_runs}
 use Rattle.table_jobs.proofs.RewriteEnds.{halted, halted_cause, poor_then, planned, too_heavy, count_is, done_so, refused_so}
 use Rattle.table_jobs.proofs.rewritten.commit_runs.Goals as goal
@@ -37,7 +37,13 @@ commit_version-requires g c =
     let above = subst (λ (fs : List FileGroup). AllByRecursion (λ (f : FileGroup). f.number < next) fs) seen c.next_after-next.ensures.above in
     let come : files ≡ brought_by (runs_view c.as_slice-2.result.now)
     = c.in_ok-made.ensures.come ∙ ap (λ (xs : List (Rc CodeGroup Global)). handles_view xs ++ brought_by (runs_view c.in_ok-made.made.items)) c.new-written.ensures.items ∙ ap (λ (xs : List CodeRun). brought_by (runs_view xs)) (sym c.as_slice-2.ensures.value) in
-    record { below = c.in_ok-groups.ensures.below next (subst (λ (k : ℕ). k ≤ next) was c.next_after-next.ensures.never_falls) (subst (λ (fs : List FileGroup). AllByRecursion (λ (f : FileGroup). f.number < next) fs) come above) }
+    let root = root_of c.args.store.now.manifest in
+    let same = ap (λ (st : Core g.row.D.Denot). root_of st.manifest) c.in_ok-made.ensures.same in
+    let fit = c.in_ok-made.ensures.fit (subst (λ (xs : List (Rc CodeGroup Global)). CanHave root (handles_view xs)) (sym c.new-written.ensures.items) tt) in
+    record {
+      below = c.in_ok-groups.ensures.below next (subst (λ (k : ℕ). k ≤ next) was c.next_after-next.ensures.never_falls) (subst (λ (fs : List FileGroup). AllByRecursion (λ (f : FileGroup). f.number < next) fs) come above);
+      each = c.in_ok-groups.ensures.each (subst (λ (r : Root). CanHave r (brought_by (runs_view c.as_slice-2.result.now))) (sym same) (subst (λ (fs : List FileGroup). CanHave root fs) come fit));
+    }
 
 none_and : (k : ℕ) → 0 + k ≡ k
 none_and k = omega arith

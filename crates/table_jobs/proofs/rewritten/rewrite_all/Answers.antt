@@ -9,7 +9,8 @@ use Rattle.bits.specs.declared.refusal.Refusal.{Refusal}
 use Rattle.bits.specs.declared.refusal.Refusal.TheVariants.{Memory}
 use Rattle.vault.proofs.Chained.{refused}
 use Rattle.manifest.specs.declared.group.Group.{Group as CodeGroup}
-use Rattle.manifest.specs.Groups.{Group as FileGroup, handles_view, root_of}
+use Rattle.manifest.specs.Groups.{Group as FileGroup, Root, handles_view, root_of}
+use Rattle.manifest.specs.Root.{CanHave}
 use Rattle.planning.specs.declared.change.Run.{Run as CodeRun}
 use Rattle.planning.specs.declared.change.Sources.{Sources}
 use Rattle.planning.specs.Replaced.{Run, run_view, runs_view}
@@ -21,7 +22,7 @@ use Rattle.table.specs.Limits.{IsPart, IsOfRun}
 use Rattle.table_state.specs.declared.standing.Core.{Core}
 use Rattle.table_state.specs.Lookups.{job_at}
 use Rattle.table_jobs.specs.Rewritten.{IsHalted, RewritesAll}
-use Rattle.table_reads.proofs.FetchesGoOn.{memory_so}
+use Rattle.table_commits.proofs.GroupRemovals.{memory_so}
 use Rattle.table_jobs.proofs.GroupsOfRuns.{poor_here}
 use Rattle.table_jobs.proofs.RunByRun.{SoFar, one_stops, next_run, none_done, low_enough, of_runs, run_more, poor_more, all_done, brought_two, many_in}
 use Rattle.table_jobs.proofs.rewritten.rewrite_all.Goals as goal
@@ -32,6 +33,7 @@ loop-run-init g c = record {
   failures = omega arith;
   honest = (λ h. h, λ h. h);
   come = sym (append-nil (handles_view c.args.written.now.items)) ∙ ap (λ (xs : List CodeRun). handles_view c.args.written.now.items ++ brought_by (runs_view xs)) (sym c.new-made.ensures.items);
+  fit = λ were. were;
   fills = λ honest start s given is_open same counter none has are. subst (λ (rs : List CodeRun). SoFar g.D.Disk.state start c.args.store.now s c.args.job (handles_view c.args.written.now.items) (runs_view rs) given 0 (sources_view c.args.runs.now)) (sym c.new-made.ensures.items)
       (subst (λ (xs : List (Rc CodeGroup Global)). SoFar g.D.Disk.state start c.args.store.now s c.args.job (handles_view xs) [] given 0 (sources_view c.args.runs.now)) (sym none) (none_done g.D.Disk.state start s c.args.job given c.args.store.now (sources_view c.args.runs.now) has counter are));
 }
@@ -134,6 +136,7 @@ loop-run-preserved g c =
       honest = both so_far.honest done.ensures.honest;
       come = done.ensures.come ∙ ap (λ (gs : List FileGroup). gs ++ (run_view c.in_ok-one.one).come) so_far.come ∙ append_assoc (handles_view c.args.written.now.items) (brought_by made) (run_view c.in_ok-one.one).come
           ∙ ap (λ (gs : List FileGroup). handles_view c.args.written.now.items ++ gs) (sym (brought_two made (run_view c.in_ok-one.one)) ∙ ap brought_by (sym pushed));
+      fit = λ were. subst (λ (r : Root). CanHave r files → CanHave r more) (ap (λ (st : Core g.row.D.Denot). root_of st.manifest) so_far.same) done.ensures.fit (so_far.fit were);
       fills = λ honest start s given is_open same counter none has are.
           let f = subst (λ (xs : List (List FileGroup)). SoFar state start mid s n files made given c.loop-run.place xs) left (so_far.fills honest start s given is_open same counter none has are) in
           let next = next_run (state start.vault.disk) s (job_at n start.jobs.items) c.loop-run.place fs fss f.left f.are in

@@ -4,10 +4,12 @@ use Rattle.std.specs.Rc.{rc_value}
 use Rattle.std.specs.declared.rc.Rc.{Rc}
 use Rattle.std.specs.declared.alloc.Global.{Global}
 use Rattle.std.proofs.lemmas.List.{length-map, length-append}
+use Rattle.lists.proofs.Options.{on_ok_always}
 use Rattle.bits.specs.declared.refusal.Refusal.{Refusal}
 use Rattle.vault.proofs.Chained.{refused}
 use Rattle.manifest.specs.declared.group.Group.{Group as CodeGroup}
-use Rattle.manifest.specs.Groups.{Group as FileGroup, group_view, handles_view, numbers_of}
+use Rattle.manifest.specs.Groups.{Group as FileGroup, root_of, group_view, handles_view, numbers_of}
+use Rattle.manifest.specs.Root.{CanHave}
 use Rattle.planning.specs.declared.change.Run.{Run as CodeRun}
 use Rattle.planning.specs.Replaced.{run_view}
 use Rattle.table_state.specs.Lookups.{job_at}
@@ -63,3 +65,8 @@ returns-clause-come g c =
     let come = behind_first (length c.as_slice-first.result.now) c.args.written.now.items c.write_sources.new.written.items c.split_at.result.1.now (ap (λ (xs : List (Rc CodeGroup Global)). length xs) c.as_slice-first.ensures.value)
     (c.split_at.ensures.back ∙ ap (λ (xs : List (Rc CodeGroup Global)). drop (length c.as_slice-first.result.now) xs) c.as_slice-2.ensures.value) in
     come_told was files (numbers_of fs) c.made_run.result (subst (λ (gs : List FileGroup). IfOk c.made_run.result (λ r. run_view r ≡ record { sources = numbers_of fs; come = gs })) come c.made_run.ensures.made) c.in_ok-write_sources.ensures.goes
+
+pub returns-clause-fit : goal.returns-clause-fit
+returns-clause-fit g c =
+    let root = root_of c.args.store.now.manifest in
+    on_ok_always (CanHave root (handles_view c.args.written.now.items) → CanHave root (handles_view c.write_sources.new.written.items)) c.made_run.result c.in_ok-write_sources.ensures.fit

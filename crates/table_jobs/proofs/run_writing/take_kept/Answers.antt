@@ -12,11 +12,12 @@ use Rattle.lists.proofs.Booleans.{iff_through as both}
 use Rattle.vault.proofs.Chained.{refused}
 use Rattle.shred.specs.Buffer.{schema_of, holds}
 use Rattle.manifest.specs.Groups.{Root, root_of, handles_view}
+use Rattle.manifest.specs.Root.{CanHave}
 use Rattle.table.specs.Table.{Row}
 use Rattle.table.specs.Limits.{IsPart}
 use Rattle.table_state.specs.declared.standing.Core.{Core}
 use Rattle.table_jobs.specs.Rewritten.{StaysUnderWay, IsHalted, AreUnderWay}
-use Rattle.table_reads.proofs.FetchesGoOn.{memory_so}
+use Rattle.table_commits.proofs.GroupRemovals.{memory_so}
 use Rattle.table_jobs.proofs.GroupsOfRuns.{goes_on, goes_nowhere}
 use Rattle.table_jobs.proofs.RowsUnderWay.{poor_way, row_fits, row_waits}
 use Rattle.table_jobs.proofs.run_writing.take_kept.Goals as goal
@@ -28,6 +29,7 @@ loop-row-init g c = record {
   failures = omega arith;
   honest = (λ h. h, λ h. h);
   goes = goes_nowhere (handles_view c.args.written.now.items);
+  fit = λ were. were;
   takes = λ honest start s task later is_open described u.
       subst (λ (xs : List CodeRow). AreUnderWay g.D.Disk.state start c.args.store.now s c.args.job task (handles_view c.args.written.now.items) c.args.waiting.now (rows_view xs ++ later) 1) (sym c.into_iter-row-iterator.ensures.into_iter_gives.0) u;
 }
@@ -100,6 +102,7 @@ loop-row-preserved g c =
       failures = omega (arith, so_far.failures, done.ensures.counts);
       honest = both so_far.honest done.ensures.honest;
       goes = goes_on (handles_view c.args.written.now.items) files more so_far.goes done.ensures.goes;
+      fit = λ were. subst (λ (r : Root). CanHave r files → CanHave r more) (ap (λ (st : Core g.row.D.Denot). root_of st.manifest) so_far.same) done.ensures.fit (so_far.fit were);
       takes = λ honest start s task later is_open described u.
           let way = subst (λ (xs : List CodeRow). AreUnderWay g.D.Disk.state start mid s c.args.job task files at.waiting (rows_view xs ++ later) 1) c.in-Some.ensures.steps.0 (so_far.takes honest start s task later is_open described u) in
           let here = described ∙ sym (ap (λ (st : Core g.row.D.Denot). root_of st.manifest) so_far.same) in

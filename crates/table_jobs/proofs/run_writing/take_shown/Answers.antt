@@ -9,14 +9,15 @@ use Rattle.vault.proofs.Chained.{refused}
 use Rattle.scan.specs.Left.{rows_stand}
 use Rattle.shred.specs.declared.row_buffer.RowBuffer.{RowBuffer}
 use Rattle.shred.specs.Buffer.{schema_of, holds}
-use Rattle.manifest.specs.Groups.{root_of, handles_view}
+use Rattle.manifest.specs.Groups.{Root, root_of, handles_view}
+use Rattle.manifest.specs.Root.{CanHave}
 use Rattle.table.specs.Table.{Row}
 use Rattle.table.specs.Limits.{IsPart}
 use Rattle.table_state.specs.declared.standing.Core.{Core}
 use Rattle.table_state.specs.Promises.{IsSure}
 use Rattle.table_jobs.specs.Rewritten.{StaysUnderWay, IsHalted, AreUnderWay}
 use Rattle.table_commits.specs.Showing.{AddsNext}
-use Rattle.table_reads.proofs.FetchesGoOn.{memory_so}
+use Rattle.table_commits.proofs.GroupRemovals.{memory_so}
 use Rattle.table_jobs.proofs.GroupsOfRuns.{goes_on, goes_nowhere}
 use Rattle.table_jobs.proofs.RowsUnderWay.{poor_way, row_fits, row_waits, first_of, none_of}
 use Rattle.table_jobs.proofs.run_writing.take_shown.Goals as goal
@@ -27,6 +28,7 @@ rows-init g c = record {
   failures = omega arith;
   honest = (λ h. h, λ h. h);
   goes = goes_nowhere (handles_view c.args.written.now.items);
+  fit = λ were. were;
   some = λ given has. (given, c.in_ok-rows.ensures.stands given has);
   takes = λ honest start s task given later is_open described has u. (given, c.in_ok-rows.ensures.stands (map (row_without_keys s.table.keys) given) has, u);
 }
@@ -113,6 +115,7 @@ rows-preserved g c =
       failures = omega (arith, so_far.failures, done.ensures.counts);
       honest = both so_far.honest done.ensures.honest;
       goes = goes_on (handles_view c.args.written.now.items) files more so_far.goes done.ensures.goes;
+      fit = λ were. subst (λ (r : Root). CanHave r files → CanHave r more) (ap (λ (st : Core g.row.D.Denot). root_of st.manifest) so_far.same) done.ensures.fit (so_far.fit were);
       some = λ given has. let here = so_far.some given has in let n = next here.0 here.1 in (n.rest, n.stands);
       takes = λ honest start s task given later is_open described has u.
           let cut = row_without_keys s.table.keys in

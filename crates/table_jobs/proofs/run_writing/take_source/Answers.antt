@@ -15,7 +15,7 @@ use Rattle.table_jobs.specs.Completing.{completed_rows}
 use Rattle.table_reads.specs.Counting.{IsHeld}
 use Rattle.table_state.specs.Lookups.{job_at}
 use Rattle.table_jobs.specs.Rewritten.{kept_at, StaysUnderWay, IsHalted, AreUnderWay}
-use Rattle.table_reads.proofs.FetchesGoOn.{memory_so}
+use Rattle.table_commits.proofs.GroupRemovals.{memory_so}
 use Rattle.table_jobs.proofs.SourcesRead.{source_held, source_kept}
 use Rattle.table_jobs.proofs.RowsUnderWay.{poor_way}
 use Rattle.table_jobs.proofs.run_writing.take_source.Goals as goal

@@ -12,7 +12,7 @@ use Rattle.manifest.specs.Groups.{Root, handles_view}
 use Rattle.manifest.specs.Root.{stored_of}
 use Rattle.table.specs.Limits.{IsPart}
 use Rattle.table_jobs.specs.Rewritten.{StaysUnderWay, IsHalted}
-use Rattle.table_reads.proofs.FetchesGoOn.{memory_so}
+use Rattle.table_commits.proofs.GroupRemovals.{memory_so}
 use Rattle.table_commits.proofs.RowsFillGroups.{size_some}
 use Rattle.table_jobs.proofs.GroupsOfRuns.{same_fields}
 use Rattle.table_jobs.proofs.RowsUnderWay.{poor_way, many_wait, room_left, held_in, full_goes}

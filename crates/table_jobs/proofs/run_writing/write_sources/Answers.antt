@@ -1,5 +1,6 @@
 use Rattle.std.proofs.Common.{◌+◌, [], List, Result, length, drop, refl, ap, sym, ◌∙◌, subst, arith}
-use Rattle.std.specs.Prelude.{Some}
+use Rattle.std.specs.Prelude.{Some, OnOk}
+use Rattle.std.proofs.lemmas.Result.{on_ok_weaker}
 use Rattle.std.specs.Rc.{rc_value}
 use Rattle.std.specs.declared.rc.Rc.{Rc}
 use Rattle.std.specs.declared.alloc.Global.{Global}
@@ -10,7 +11,7 @@ use Rattle.vault.proofs.Chained.{refused}
 use Rattle.gather.specs.KeyBuffers.{HoldsRows}
 use Rattle.manifest.specs.declared.group.Group.{Group as CodeGroup}
 use Rattle.manifest.specs.Groups.{Group as FileGroup, Root, group_view, handles_view, root_of}
-use Rattle.manifest.specs.Root.{stored_of}
+use Rattle.manifest.specs.Root.{CanHave, stored_of}
 use Rattle.table.specs.Table.{rows}
 use Rattle.table.specs.Limits.{IsPart}
 use Rattle.table_state.specs.declared.standing.Core.{Core}
@@ -18,7 +19,7 @@ use Rattle.table_state.specs.Lookups.{job_at}
 use Rattle.table_jobs.specs.Rewritten.{AddsAll, AreSources, IsHalted}
 use Rattle.lists.proofs.Slices.{drop_here as drop_item, drop_past as drop_all}
 use Rattle.table_reads.proofs.CountedRows.{no_terms}
-use Rattle.table_reads.proofs.FetchesGoOn.{memory_so}
+use Rattle.table_commits.proofs.GroupRemovals.{memory_so}
 use Rattle.table_jobs.proofs.RunByRun.{run_rows_in, run_can}
 use Rattle.table_jobs.proofs.GroupsOfRuns.{same_fields, poor_here, goes_on, goes_then, goes_nowhere}
 use Rattle.table_jobs.proofs.RowsUnderWay.{SourcesLeft, run_task, not_empty, begun, poor_way, none_to_come, next, next_way, then_others, some_source, first_key}
@@ -43,6 +44,7 @@ loop-source-init g c = record {
   failures = omega arith;
   honest = (λ h. h, λ h. h);
   goes = goes_nowhere (handles_view c.args.written.now.items);
+  fit = λ were. were;
   fills = λ honest start s groups run is_open same described has are is.
       let state = g.D.Disk.state in
       let n = c.args.job in
@@ -133,6 +135,7 @@ loop-source-preserved g c =
       failures = omega (arith, so_far.failures, done.ensures.counts);
       honest = both so_far.honest done.ensures.honest;
       goes = goes_on was files more so_far.goes done.ensures.goes;
+      fit = λ were. subst (λ (r : Root). CanHave r files → CanHave r more) (ap (λ (st : Core g.row.D.Denot). root_of st.manifest) so_far.same) done.ensures.fit (so_far.fit were);
       fills = λ honest start s groups run is_open same described has are is.
           let task = run_task was groups is.key run old.next_group in
           let l = subst (λ (xs : List FileGroup). SourcesLeft state start s n task mid files at.waiting at.at xs) split (so_far.fills honest start s groups run is_open same described has are is) in
@@ -158,3 +161,13 @@ returns-clause-writes g c honest start s groups run is_open same described has a
 
 pub returns-clause-goes : goal.returns-clause-goes
 returns-clause-goes g c = goes_then c.write_last.result (handles_view c.args.written.now.items) (handles_view c.loop-source.written.items) (handles_view c.write_last.new.written.items) c.loop-source.invariant.goes c.write_last.ensures.goes
+
+pub returns-clause-fit : goal.returns-clause-fit
+returns-clause-fit g c =
+    let at = c.loop-source in
+    let root = root_of c.args.store.now.manifest in
+    let files = handles_view at.written.items in
+    let last = handles_view c.write_last.new.written.items in
+    let same = ap (λ (st : Core g.row.D.Denot). root_of st.manifest) at.invariant.same in
+    on_ok_weaker {P = CanHave root files → CanHave root last} c.write_last.result (λ one were. one (at.invariant.fit were))
+    (subst (λ (r : Root). OnOk c.write_last.result (CanHave r files → CanHave r last)) same c.write_last.ensures.fit)

@@ -2,7 +2,7 @@ use Rattle.std.proofs.Common.{◌≡◌}
 use Rattle.bits.specs.Refusals.{HasCause, RefusedOnly}
 use Rattle.bits.specs.declared.refusal.Refusal.TheVariants.{Limit}
 use Rattle.vault.proofs.Chained.{refused}
-use Rattle.table_reads.proofs.FetchesGoOn.{memory_so}
+use Rattle.table_commits.proofs.GroupRemovals.{memory_so}
 use Rattle.table_openings.proofs.AfterCreations.{is_first}
 use Rattle.table_openings.proofs.creating.make_first.Goals as goal
 

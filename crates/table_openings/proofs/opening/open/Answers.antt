@@ -1,5 +1,4 @@
 use Rattle.std.proofs.Common.{sym, subst, inl}
-use Rattle.std.proofs.lemmas.Bool.{both_ways as unlike}
 use Rattle.bits.specs.declared.refusal.Refusal.TheVariants.{Limit}
 use Rattle.table_openings.specs.Opening.{HasRoomForAll, LeavesTables}
 use Rattle.table_openings.proofs.AfterOpenings.{leaves_tables, room_for_all, moments_at, clear_at, found_so, cleans_at, is_clean, nothing_left, nothing_changed, cleaned_poor}
@@ -15,7 +14,7 @@ returns-in-Ok-first_versions-clause-found g c honest sound room =
     let now = subst (λ v. (g.D.Disk.state v.disk).honest) (sym c.started.ensures.vault) (opened.honest.0 honest) in
     found_so g.D.Disk.state (g.D.Disk.state c.args.disk) c.started.result c.in-Ok.vault c.in-Ok.manifest c.started.ensures.vault c.started.ensures.manifest
     (opened.moments honest sound) sound room (opened.clear honest) c.tables_are_one.ensures c.args.options (c.started.ensures.started c.in-Ok-first_versions.ensures.are)
-    c.paths_are_apart.ensures.apart c.a_root_means_one_table.ensures c.rows_of_parts_fit.ensures (c.is_out_of_range.ensures.within (unlike c.is_out_of_range.result c.if-is_out_of_range.false))
+    c.paths_are_apart.ensures.apart c.a_root_means_one_table.ensures c.rows_of_parts_fit.ensures (c.is_out_of_range.ensures.within c.if-is_out_of_range.false)
     (opened.sound honest sound) (opened.describes honest sound) ((g.met.D.Disk.lawful disk).seen_may_stay now)
 
 pub returns-in-Ok-first_versions-clause-moments : goal.returns-in-Ok-first_versions-clause-moments

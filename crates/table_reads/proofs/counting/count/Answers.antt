@@ -16,7 +16,7 @@ use Rattle.table_state.specs.Promises.{ActsFrom}
 use Rattle.table_commits.proofs.UnchangedRefusals.{acts_shut}
 use Rattle.table_reads.proofs.CountedRows.{counts_all, count_poor, count_refused, no_terms}
 use Rattle.filter.specs.Test.{tests_in}
-use Rattle.table_reads.proofs.FetchesGoOn.{memory_so}
+use Rattle.table_commits.proofs.GroupRemovals.{memory_so}
 use Rattle.table_reads.proofs.CountingGroups.{table_held, counts_so, count_stopped}
 use Rattle.table_reads.proofs.FilesLeftAlone.{same, only_read}
 use Rattle.table_reads.proofs.counting.count.Goals as goal

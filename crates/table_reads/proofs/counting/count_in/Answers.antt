@@ -15,7 +15,7 @@ use Rattle.scan.specs.Faults.{IsDevice}
 use Rattle.table.specs.Table.{Group}
 use Rattle.table_reads.specs.Reading.{OnlyReads}
 use Rattle.table_reads.proofs.ReadsOfPassedGroups.{reading_ends, reading_on, reading_poor}
-use Rattle.table_reads.proofs.FetchesGoOn.{memory_so}
+use Rattle.table_commits.proofs.GroupRemovals.{memory_so}
 use Rattle.table_reads.proofs.counting.count_in.Goals as goal
 
 pub returns-in_err-here-clause-only : goal.returns-in_err-here-clause-only

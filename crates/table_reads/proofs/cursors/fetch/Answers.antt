@@ -11,7 +11,8 @@ use Rattle.table.specs.History.{next_answer}
 use Rattle.table_state.specs.Promises.{ActsFrom}
 use Rattle.table_commits.proofs.UnchangedRefusals.{acts_shut}
 use Rattle.table_reads.proofs.FetchesWithoutCursor.{fetch_none, fetch_over}
-use Rattle.table_reads.proofs.FetchesGoOn.{seen, at_of, none_at, poor, memory_so, refused_so, went, reads_over, reads_went, reads_stopped}
+use Rattle.table_reads.proofs.FetchesGoOn.{seen, at_of, none_at, poor, refused_so, went, reads_over, reads_went, reads_stopped}
+use Rattle.table_commits.proofs.GroupRemovals.{memory_so}
 use Rattle.table_reads.proofs.ShownRows.{over_is}
 use Rattle.table_reads.proofs.FilesLeftAlone.{same, only_read}
 use Rattle.table_reads.proofs.cursors.fetch.Goals as goal

@@ -10,7 +10,8 @@ use Rattle.table_reads.proofs.MovedCursors.{written_back}
 use Rattle.table_state.specs.Promises.{Acts, ActsFrom}
 use Rattle.table_commits.proofs.UnchangedRefusals.{acts_shut}
 use Rattle.table_reads.proofs.FetchesWithoutCursor.{fetch_none, fetch_over}
-use Rattle.table_reads.proofs.FetchesGoOn.{seen, at_of, none_at, poor, memory_so, refused_so, went, reads_over, reads_went, reads_stopped}
+use Rattle.table_reads.proofs.FetchesGoOn.{seen, at_of, none_at, poor, refused_so, went, reads_over, reads_went, reads_stopped}
+use Rattle.table_commits.proofs.GroupRemovals.{memory_so}
 use Rattle.table_reads.proofs.ShownRows.{over_is, shown_answer, shown_some}
 use Rattle.table_reads.proofs.FilesLeftAlone.{same, only_read}
 use Rattle.table_reads.proofs.cursors.fetch_rows.Goals as goal
