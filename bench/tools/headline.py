@@ -25,7 +25,7 @@ import command_line
 TOP = os.path.dirname(os.path.dirname(os.path.dirname(os.path.abspath(__file__))))
 # What the contracts say: file of the function, and the names that its clauses cite.
 CONTRACTS = {
-    "Store::run": ("store", "Running", ["Runs", "HaveCauses"]),
+    "Store::run": ("store", "Running", ["Runs", "HaveCauses", "ListingsAreOfTheRoot"]),
     "a_crash_leaves_a_prefix_of_the_commits": (
         "store",
         "Prefixes",
@@ -35,6 +35,11 @@ CONTRACTS = {
         "store",
         "Restarting",
         ["StoresCanBeOpened", "ImagesCanBeOpened"],
+    ),
+    "an_opening_finds_what_a_crash_left": (
+        "store",
+        "Restarting",
+        ["CrashesAreReopened", "StoresAreReopened"],
     ),
     "open": ("table_openings", "Opening", ["IsOpened", "LeavesTables"]),
 }
