@@ -227,9 +227,9 @@ for kind, put in ODD.items():
     os.rename("t/k=a", "moved")
     put("t/k=a")
     checked, looked, *ended = [called(*words) for words in (("check", "t"), ("inspect", "t"), ("query", "t"), ("append", "t", "rows.jsonl"))]
-    tell(f"a {kind} in the place of a key's folder: a finding of check, and query and append are refused",
-         refusal(checked) == 25 and f"t/k=a: {OTHER_NODE}\n" in checked[1] and "t/k=a/part.0.parquet: 25 Device: it cannot be read\n" in checked[1] and looked[0] == 0
-         and all(refusal(it) == 25 for it in ended) and stays(), (checked, looked, ended))
+    tell(f"a {kind} in the place of a key's folder: a finding of check, and inspect, query and append are refused",
+         refusal(checked) == 25 and f"t/k=a: {OTHER_NODE}\n" in checked[1] and "t/k=a/part.0.parquet: 25 Device: it cannot be read\n" in checked[1]
+         and all(refusal(it) == 25 for it in (looked, *ended)) and stays(), (checked, looked, ended))
     os.remove("t/k=a")
     os.rename("moved", "t/k=a")
     tell("without it the table is whole", is_whole("t")[0])
