@@ -1,6 +1,6 @@
 //! Calls of the program.
 
-use crate::places::FilePlace;
+use crate::file_place::FilePlace;
 use crate::screen::Screen;
 use bits::{R, Refusal};
 use program::Terminals;

@@ -1,6 +1,6 @@
 //! What is done to files.
 
-use crate::places::FilePlace;
+use crate::file_place::FilePlace;
 use bits::{R, Refusal};
 use case_words::{bytes, count, natural, text_after, word};
 use std::alloc::Global;

@@ -1,6 +1,6 @@
 //! What is in files and folders.
 
-use crate::places::FilePlace;
+use crate::file_place::FilePlace;
 use bits::{R, Refusal};
 use case_words::{joined, text_after, word, yes_or_no};
 use program::text_of;

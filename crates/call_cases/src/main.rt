@@ -4,12 +4,12 @@
 
 mod calls;
 mod changing;
+mod file_place;
 mod looking;
-mod places;
 mod refusals;
 mod screen;
 
-use crate::places::{FilePlace, HostFolder};
+use crate::file_place::{FilePlace, HostFolder};
 use crate::refusals::refusal_of;
 use bits::R;
 use case_words::{word, words_from};

@@ -17,7 +17,8 @@ use Rattle.gather.specs.declared.gathered.Gathered.{Gathered}
 use Rattle.gather.specs.GatheredRows.{holds}
 use Rattle.table_commits.specs.Gathering.{AreGatheredFor, KeepsTable}
 use Rattle.commands.specs.Lines.{AreRowTexts, IsRefusedLine}
-use Rattle.commands.specs.Blocks.{AreKnown, ReadsBlock, IsRefusedIn, HasFirstFaultIn, AreRefusedIn, AreRefusedOf}
+use Rattle.places.specs.Blocks.{AreKnown, ReadsBlock}
+use Rattle.commands.specs.FileLines.{IsRefusedIn, HasFirstFaultIn, AreRefusedIn, AreRefusedOf}
 use Rattle.commands.specs.inner.LineCuts.{IsLineLength, IsWholeLength}
 use Rattle.commands.specs.inner.GatheredRows.{AddsLine, HoldsLines, GathersLines, GathersBytes, HasRead, HasReadAll, GathersBlock}
 use Rattle.commands.specs.declared.gathering.LineGatherer.{LineGatherer}

@@ -8,7 +8,7 @@ use Rattle.bits.specs.Refusals.{HasCause}
 use Rattle.disk.specs.State.{State as DiskState}
 use Rattle.dataset_words.specs.declared.call.Call.{Call}
 use Rattle.dataset_words.specs.declared.call.Task.{Task}
-use Rattle.commands.specs.Places.{Known, StaysKnown, IsKeptFrom}
+use Rattle.places.specs.Places.{Known, StaysKnown, IsKeptFrom}
 use Rattle.commands.specs.Calls.{Filtered, filtered, no_filter, CallComes, no_memory, IsFiltered, IsNoFilter, filter_by_words, filter_path, after_at}
 
 -- what holds of a result holds of it once it is an Ok, or an Err

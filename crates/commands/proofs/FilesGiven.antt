@@ -5,7 +5,7 @@ use Rattle.bits.specs.declared.refusal.Refusal.{Refusal}
 use Rattle.bits.specs.declared.refusal.Refusal.TheVariants.{Script}
 use Rattle.disk.specs.State.{State as DiskState}
 use Rattle.dataset_words.specs.declared.call.Call.{Call}
-use Rattle.commands.specs.Places.{Known}
+use Rattle.places.specs.Places.{Known}
 use Rattle.commands.specs.Calls.{GivesCall, GivesNoFile}
 
 module _ {D S : Type 0} {state : D → DiskState} {old new : Known D} {call : Call} (was files : List (List ℕ)) (none : was ≡ [])

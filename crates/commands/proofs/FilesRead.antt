@@ -13,9 +13,10 @@ use Rattle.disk.specs.State.{State as DiskState}
 use Rattle.dataset_words.specs.declared.call.Call.{Call}
 use Rattle.commands.specs.Tasks.{lent_texts}
 use Rattle.commands.specs.Importing.{files_view}
-use Rattle.commands.specs.Places.{Known, StaysKnown, IsKeptFrom, AreKeptAmong, AreFilesAt}
+use Rattle.places.specs.Places.{Known, StaysKnown, IsKeptFrom, AreKeptAmong, AreFilesAt}
 use Rattle.commands.specs.Calls.{OnFolder, OnFiles, read, unread, named_paths}
-use Rattle.commands.proofs.PlacesKept.{by_cause, on_folder_before}
+use Rattle.places.proofs.PlacesKept.{by_cause}
+use Rattle.commands.proofs.CallsKept.{on_folder_before}
 
 -- the texts that are lent of the first of some are the first of those of all
 first_texts : (n : ℕ) (all : List (Bor (List ℕ))) → lent_texts (take n all) ≡ take n (lent_texts all)

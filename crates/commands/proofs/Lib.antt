@@ -18,16 +18,14 @@ mod FilesGiven
 mod FilesOfQuery
 mod StagedFiles
 mod ToldColumns
-mod FileEnds
 mod TasksMade
 mod Restyled
 pub mod FirstKept
 mod CallMade
 mod FilesRead
 mod FilterNamed
-mod HostKnown
 mod OpenedSo
-mod PlacesKept
+mod CallsKept
 mod NewFolders
 mod CreatedSo
 mod TasksAt
@@ -36,4 +34,3 @@ mod LooksFound
 mod WholeLines
 mod BlocksRead
 mod TablesFound
-mod BlocksPut

@@ -2,11 +2,11 @@
 use Rattle.std.proofs.Common.{◌≡◌, ℕ, Bool, true, false, List, Result, Ok, Err, OnOk, IsErrAnd, IsTrue, refl, ap}
 use Rattle.std.specs.Prelude.{⊤}
 use Rattle.bits.specs.declared.refusal.Refusal.{Refusal}
-use Rattle.commands.specs.Places.{Known, StaysKnown, StaysBut, IsKeptFrom, InFolder, given_back, not_had}
+use Rattle.places.specs.Places.{Known, StaysKnown, StaysBut, IsKeptFrom, InFolder, given_back, not_had}
 use Rattle.footer.specs.declared.options.WriteOptions.{WriteOptions}
 use Rattle.disk.specs.State.{State as DiskState}
 use Rattle.commands.specs.Creating.{InNewFolder, handed_back, not_made, not_taken, taken_away, Creates, not_begun}
-use Rattle.commands.proofs.PlacesKept.{stays_then, stays_but, but_then}
+use Rattle.places.proofs.PlacesKept.{stays_then, stays_but, but_then}
 
 module _ {D W T : Type 0} {disk_in : W → D} {old new : Known D} {path : List ℕ} {Comes : W → W → Result T Refusal → Type 0} where
   others_of : (result : Result T Refusal) → InNewFolder disk_in old new path Comes result → StaysBut path old new

@@ -13,7 +13,7 @@ use Rattle.dataset_words.specs.declared.call.Question.{Question}
 use Rattle.dataset_words.specs.declared.call.Question.TheVariants.{Query, Count, Groups, Schema}
 use Rattle.jsonrows.specs.SchemaPrinted.{PrintsFields}
 use Rattle.commands.specs.Querying.{IsSchemaOfFile}
-use Rattle.commands.specs.Places.{Known, HasEnds}
+use Rattle.places.specs.Places.{Known, HasEnds}
 use Rattle.commands.specs.Calls.{MayBeOfFile, PrintsOfFile}
 
 -- the columns of these bytes are printed

@@ -20,8 +20,8 @@ use Rattle.table_state.specs.Stands.{Stands}
 use Rattle.table_state.specs.Promises.{Acts}
 use Rattle.dataset_words.specs.declared.call.Call.{Call}
 use Rattle.commands.specs.Opening.{OpensToRead}
-use Rattle.commands.specs.Places.{Known, StaysKnown, IsKeptFrom, InFolder, given_back, not_had}
-use Rattle.commands.specs.Blocks.{AreRefusedOf}
+use Rattle.places.specs.Places.{Known, StaysKnown, IsKeptFrom, InFolder, given_back, not_had}
+use Rattle.commands.specs.FileLines.{AreRefusedOf}
 use Rattle.commands.specs.Appending.{FindsTable, found, not_told, AppendsFrom}
 use Rattle.commands.specs.Calls.{AppendsLines, no_file, no_table, no_rows, ChangesDisk, changed, not_opened, state_within, disk_within}
 use Rattle.commands.specs.declared.watched.Watched.{Watched}

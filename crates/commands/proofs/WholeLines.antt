@@ -5,7 +5,7 @@ use Rattle.std.specs.List.{slice_split, onto_first}
 use Rattle.std.specs.Str.Lines.{lines, lines_of_parts, strip_carriage_return}
 use Rattle.std.proofs.lemmas.List.{take_more, take_all}
 use Rattle.std.proofs.lemmas.Str.{IsUtf8-append, IsUtf8-from_ascii, IsUtf8-nil}
-use Rattle.commands.specs.Blocks.{AreWholeLines}
+use Rattle.commands.specs.FileLines.{AreWholeLines}
 use Rattle.commands.specs.inner.LineCuts.{HasNoFeed, IsLineLength, ended, open_ended}
 
 -- the parts of bytes between line feeds

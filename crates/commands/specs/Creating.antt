@@ -15,7 +15,7 @@ use Rattle.table_state.specs.declared.standing.Core.{Core}
 use Rattle.table_state.specs.Spares.{HasRoom}
 use Rattle.table_state.specs.Stands.{Stands}
 use Rattle.table_openings.specs.Opening.{AreNamedKeys, CanKey, HasNoRoot, LeavesNoneOr, IsCreatable, IsNotCreated}
-use Rattle.commands.specs.Places.{Known, StaysKnown, StaysBut, IsKeptFrom}
+use Rattle.places.specs.Places.{Known, StaysKnown, StaysBut, IsKeptFrom}
 
 -- nothing that any image has, or that an honest disk reads, changes
 pub record OnlyLooks (old new : DiskState) : Type 0 where

@@ -8,12 +8,10 @@ pub mod Importing
 pub mod Stopping
 pub mod Renewing
 pub mod Unless
-pub mod FileEnds
 pub mod Kept
 pub mod Tasks
-pub mod Places
 pub mod Opening
-pub mod Blocks
+pub mod FileLines
 pub mod Appending
 pub mod Looking
 pub mod Creating

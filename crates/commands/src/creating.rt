@@ -1,17 +1,14 @@
 //! A table made in a folder.
 
 ghost use Rattle.std.specs.Prelude.{◌≡◌, ⊤, false, map, string_bytes, OnOk, IfOk, IsTrue};
-ghost use Rattle.commands.specs.Places.{StaysBut, StaysKnown, InFolder};
+ghost use Rattle.places.specs.Places.{StaysBut, StaysKnown, InFolder};
 ghost use Rattle.commands.specs.Creating.{OnlyLooks, CreatesOn, MakesTable, InNewFolder, Creates};
 ghost use Rattle.commands.specs.Calls.{state_within, disk_within};
 ghost use Rattle.commands.specs.Tasks.{lent_texts};
 
 use crate::changing::without_root;
 use crate::explaining::{schema_reason, table_reason};
-use crate::lock::Access;
 use crate::making::Making;
-use crate::places::Places;
-use crate::reason::Reason;
 use crate::remarks::schema_in;
 use crate::tasks::found;
 use crate::texts::owned;
@@ -19,6 +16,7 @@ use bits::{R, Refusal};
 use disk::Disk;
 use manifest::Manifest;
 use partition::key_columns;
+use places::{Access, Places, Reason};
 use reasons::options_fault;
 use schema::{Schema, a_list_means_one_schema, a_schema_is_its_elements};
 use std::alloc::Global;

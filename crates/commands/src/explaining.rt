@@ -5,12 +5,12 @@ use crate::import_reason::import_reason;
 use crate::key_reason::keys_reason;
 use crate::line_notes::RowNotes;
 use crate::part_reason::is_of_bytes;
-use crate::reason::Reason;
 use crate::texts::text_of;
 use bits::{R, Refusal};
 use dataset_words::{Change, Question};
 use disk::Disk;
 use manifest::Manifest;
+use places::Reason;
 use reasons::{
     Cause, call_fault, column_fault, filter_fault, options_fault, schema_fault, utf8_fault,
 };

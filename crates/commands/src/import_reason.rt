@@ -3,9 +3,9 @@
 use crate::column_text::column_text;
 use crate::key_reason::rows_reason;
 use crate::part_reason::is_of_bytes;
-use crate::reason::{Difference, Reason};
 use bits::{R, Refusal};
 use footer::{read_file, read_footer};
+use places::{Difference, Reason};
 use reports::first_problem;
 use schema::{KeyColumn, Schema};
 use std::alloc::Global;

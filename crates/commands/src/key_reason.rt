@@ -2,10 +2,10 @@
 //!
 //! Only `partition` decides; this finds words for what it refused.
 
-use crate::reason::{KeyFault, Reason, ValueFault};
 use bits::R;
 use gather::Gathered;
 use partition::{can_partition, key_columns, row_can_partition};
+use places::{KeyFault, Reason, ValueFault};
 use schema::{Key, KeyColumn, Row, Schema, Value};
 use std::alloc::Global;
 

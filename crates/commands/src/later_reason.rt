@@ -1,11 +1,9 @@
 //! Why a call on a folder is refused, found when it is over: by what the disk and the system refused last.
 
-use crate::notes::Notes;
 use crate::part_reason::is_of_bytes;
-use crate::places::{Node, Places};
-use crate::reason::Reason;
 use bits::{R, Refusal};
 use dataset_words::{Call, Change, Look, Question, Task};
+use places::{Node, Notes, Places, Reason};
 use reasons::{Cause, options_fault, output_cause, system_fault};
 use reports::first_problem;
 use std::alloc::Global;

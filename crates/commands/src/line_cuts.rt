@@ -2,7 +2,7 @@
 
 ghost use Rattle.std.specs.Prelude.{◌≡◌, ◌≤◌, ◌<◌, length, take, drop, vec_len};
 ghost use Rattle.commands.specs.inner.LineCuts.{IsLineLength, IsWholeLength};
-ghost use Rattle.commands.specs.Blocks.{AreWholeLines};
+ghost use Rattle.commands.specs.FileLines.{AreWholeLines};
 
 /// How many bytes the first line of bytes has, with its line feed; all that there are, where none is a line feed.
 pub(crate) fn line_length(bytes: &[u8]) -> usize

@@ -1,7 +1,7 @@
 //! What is kept of lines while they are read. They may come from a pipe, so that none can be read again.
 
-use crate::reason::Reason;
 use bits::{R, Refusal};
+use places::Reason;
 use reasons::{LimitFault, NOT_UTF8, TextFault, fault_at, large_value, line_fault};
 use schema::Schema;
 use std::alloc::Global;

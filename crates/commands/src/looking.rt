@@ -11,12 +11,12 @@ ghost use Rattle.commands.specs.Lines.{AreRowTexts};
 
 use crate::key_reason::rows_reason;
 use crate::printing::write_text;
-use crate::reason::Reason;
 use crate::row_lines::rows_of;
 use crate::survey_json::json_of_survey;
 use bits::{R, Refusal};
 use disk::Disk;
 use manifest::Manifest;
+use places::Reason;
 use reasons::{large_value, row_fault};
 use reports::Progress;
 use schema::Schema;

@@ -7,7 +7,7 @@ ghost use Rattle.std.specs.Prelude.{◌≡◌, ◌++◌, List, false, true, code
 ghost use Rattle.std.specs.Io.KnownBytes.{Appends};
 ghost use Rattle.bits.specs.Refusals.{RefusedOnly};
 ghost use Rattle.commands.specs.Importing.{files_view};
-ghost use Rattle.commands.specs.Places.{StaysKnown, IsKeptFrom, InFolder};
+ghost use Rattle.places.specs.Places.{StaysKnown, IsKeptFrom, InFolder};
 ghost use Rattle.schema.specs.Values.{ValueTrees};
 ghost use Rattle.manifest.specs.Groups.{Root};
 ghost use Rattle.gather.specs.GatheredRows.{holds};
@@ -21,22 +21,18 @@ ghost use Rattle.table_state.specs.declared.standing.Core.{Core};
 
 use crate::appending::append_rows;
 use crate::explaining::append_reason;
-use crate::folder::refusal_of;
 use crate::gathering::LineGatherer;
-use crate::lock::Access;
 use crate::making::{Making, root_reason};
-use crate::notes::Explains;
-use crate::places::Places;
 use crate::printing::print_done;
-use crate::readers_lock::Readers;
-use crate::reason::Reason;
 use crate::stopping::run_to_refusal;
 use crate::tasks::{ask, bytes_at, change_in_style, found, run};
 use crate::watched::Watched;
+use crate::writers::writer_refusal;
 use bits::{R, Refusal};
 use dataset_words::{Change, Question, Task};
 use disk::Disk;
 use footer::WriteOptions;
+use places::{Access, Explains, Places, Readers, Reason};
 use std::alloc::Global;
 use std::io::Write;
 use store::Store;
@@ -387,5 +383,5 @@ fn print_rows_done<W: Write>(rows: u64, out: &mut W) -> R<()>
     ensures which { RefusedOnly (λ e. e ≡ Refusal.Device) result }
 {
     print_done(rows, out)?;
-    out.flush().map_err(refusal_of)
+    out.flush().map_err(writer_refusal)
 }

@@ -16,8 +16,8 @@ ghost use Rattle.jsonrows.specs.SchemaPrinted.{PrintsFields};
 ghost use Rattle.commands.specs.QueryFile.{first_of};
 ghost use Rattle.commands.specs.inner.Gathering.{AreGathered, HasWrittenLines, BeginsLines};
 
-use crate::folder::refusal_of;
 use crate::row_limit::most_of;
+use crate::writers::writer_refusal;
 use assemble::Discard;
 use bits::{R, Refusal};
 use itoa::Buffer;
@@ -36,7 +36,7 @@ pub fn write_text<W: Write>(text: &[u8], out: &mut W) -> R<()>
     ensures written { OnOk result (Appends (W.contents out.old) (W.contents out.new) text.now) }
     ensures which { RefusedOnly (λ e. e ≡ Device) result }
 {
-    out.write_all(text).map_err(refusal_of)
+    out.write_all(text).map_err(writer_refusal)
 }
 
 /// Prints `done N`, a line, and takes no memory of its own: for want of it no change is refused after it was made. Refused

@@ -1,9 +1,9 @@
 //! Which of several files is refused.
 
 use crate::making::{Making, file_named};
-use crate::reason::{Reason, Told};
 use bits::{R, Refusal};
 use dataset_words::{Change, Task};
+use places::{Reason, Told};
 use std::alloc::Global;
 use std::io::Write;
 

@@ -8,11 +8,11 @@ ghost use Rattle.commands.specs.Looking.{MayBeNote};
 
 use crate::explaining::schema_reason;
 use crate::printing::write_text;
-use crate::reason::Reason;
 use crate::tasks::found;
 use crate::texts::text_of;
 use bits::{R, Refusal};
 use jsonrows::schema_from;
+use places::Reason;
 use reasons::{doubled_note, schema_notes};
 use reports::OneLine;
 use schema::Schema;

@@ -10,12 +10,12 @@ ghost use Rattle.commands.specs.Tasks.{StopsInBytes, RunsBytesToRefusal};
 ghost use Rattle.commands.specs.Stopping.{is_done, EndAtRefusal, StopsAt, MakesToRefusal, RunsToRefusal};
 
 use crate::explaining::script_reason;
-use crate::folder::refusal_of;
-use crate::reason::Reason;
 use crate::running::{calls_of, print_answers};
 use crate::texts::text_of;
+use crate::writers::writer_refusal;
 use bits::{R, Refusal};
 use disk::Disk;
+use places::Reason;
 use std::alloc::Global;
 use std::io::Write;
 use std::slice;
@@ -187,6 +187,6 @@ fn made_to_refusal<D: Disk, W: Write>(
 {
     let text = text_of(bytes)?;
     let stop = run_script_to_refusal(alloc, store, text, texts, out, has_run)?;
-    out.flush().map_err(refusal_of)?;
+    out.flush().map_err(writer_refusal)?;
     Ok(stop)
 }

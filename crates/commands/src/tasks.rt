@@ -9,19 +9,19 @@ ghost use Rattle.commands.specs.Tasks.{AddsColumn, ImportsSeveral, ImportsAsked,
 use crate::changing::{add_column, remove_rows, rewrite_groups, rewrite_small};
 use crate::explaining::{change_reason, question_reason, script_reason};
 use crate::first_rows::print_first_rows;
-use crate::folder::refusal_of;
 use crate::group_columns::print_groups_and_columns;
 use crate::importing::{import_files, import_files_unless};
 use crate::kept_style::keep_style;
 use crate::querying::{print_count, print_groups, print_rows, print_schema};
-use crate::reason::Reason;
 use crate::renewing::rewrite_all;
 use crate::running::run_script;
 use crate::texts::{columns_named, owned, text_of};
 use crate::unless::import_unless;
+use crate::writers::writer_refusal;
 use bits::R;
 use dataset_words::{Change, Question};
 use disk::Disk;
+use places::Reason;
 use std::alloc::Global;
 use std::io::Write;
 use store::Store;
@@ -278,5 +278,5 @@ fn run_all<D: Disk, W: Write>(
 {
     let text = text_of(bytes)?;
     run_script(alloc, store, text, texts, out, has_run)?;
-    out.flush().map_err(refusal_of)
+    out.flush().map_err(writer_refusal)
 }

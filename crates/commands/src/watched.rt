@@ -2,9 +2,9 @@
 
 ghost use Rattle.std.specs.Prelude.{◌≡◌};
 
-use crate::notes::{Explains, Notes};
 use crate::tally::{Tally, Work};
 use disk::{Disk, Entry, Fault};
+use places::{Explains, Notes};
 use std::alloc::Global;
 use std::io::Write;
 

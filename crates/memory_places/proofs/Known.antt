@@ -1,7 +1,7 @@
 -- What is known of folders in memory where one of them changes.
 use Rattle.std.proofs.Common.{◌≡◌, ◌≢◌, ◌↔◌, ◌⊎◌, ℕ, List, is_some, sym, subst}
 use Rattle.program.specs.Paths.{Holds}
-use Rattle.commands.specs.Places.{StaysKnown, StaysBut}
+use Rattle.places.specs.Places.{StaysKnown, StaysBut}
 use Rattle.memory_places.specs.Files.{place_in}
 use Rattle.memory_places.specs.Folders.{known_in_memory, IsDiskOf, IsDiskMade, HasNoDisk, HasFolderAsRoot, StayBut, Stay}
 use Rattle.memory_places.specs.declared.layout.Layout.{Layout}

@@ -3,7 +3,7 @@ use Rattle.std.specs.Prelude.{ℕ, Option, Ok, Err}
 use Rattle.disk.specs.State.{State as DiskState}
 use Rattle.mem_disk.specs.Disks.{state_of}
 use Rattle.program.specs.Words.{Printing, Refusing, Giving, Withholding}
-use Rattle.commands.specs.Places.{Known}
+use Rattle.places.specs.Places.{Known}
 use Rattle.commands.specs.Calls.{CallComes, GivesCall, GivesNoFile}
 use Rattle.memory_places.specs.Folders.{known_in_memory}
 use Rattle.memory_places.specs.declared.folder_disk.FolderDisk.{FolderDisk}

@@ -6,7 +6,7 @@ use Rattle.disk.specs.declared.binding.Binding.TheVariants.{Folder}
 use Rattle.mem_disk.specs.Disks.{state_of}
 use Rattle.mem_disk.specs.Loose.{empty, image_of}
 use Rattle.program.specs.Paths.{Holds}
-use Rattle.commands.specs.Places.{Known}
+use Rattle.places.specs.Places.{Known}
 use Rattle.memory_places.specs.Files.{place_in}
 use Rattle.memory_places.specs.declared.layout.Layout.{Layout}
 use Rattle.memory_places.specs.declared.disks.FolderDisks.{FolderDisks}

@@ -7,8 +7,8 @@ ghost use Rattle.memory_places.specs.declared.folder_disk.FolderDisk.{FolderDisk
 
 use crate::folder_disk::FolderDisk;
 use bits::R;
-use commands::Node;
 use disk::Binding;
+use places::Node;
 use std::alloc::Global;
 use std::collections::HashMap;
 

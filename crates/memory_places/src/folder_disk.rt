@@ -6,9 +6,9 @@ ghost use Rattle.mem_disk.specs.Disks.{state_of, lawful_of};
 ghost use Rattle.memory_places.specs.Folders.{IsDiskOfNew};
 
 use bits::{R, Refusal};
-use commands::Explains;
 use disk::{Binding, Disk, Entry, Failure, Fault, folder_of};
 use mem_disk::MemDisk;
+use places::Explains;
 use std::alloc::Global;
 
 /// Memory where a growth was refused, else Device.

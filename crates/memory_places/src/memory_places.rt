@@ -9,7 +9,7 @@ use crate::folder_disk::FolderDisk;
 use crate::layout::{IS_FOLDER, Layout, NO_FOLDER};
 use crate::memory_reader::MemoryReader;
 use bits::{R, Refusal};
-use commands::{Access, Node, Notes, Patience, Places, Readers, Reason};
+use places::{Access, Node, Notes, Patience, Places, Readers, Reason};
 use program::folder_of;
 use std::alloc::Global;
 use std::io::{self, Write};

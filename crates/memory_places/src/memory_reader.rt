@@ -3,7 +3,7 @@
 ghost use Rattle.std.specs.Prelude.{◌≡◌, ◌≤◌, Some, drop, length};
 
 use bits::R;
-use commands::{BlockReader, Notes};
+use places::{BlockReader, Notes};
 
 /// How many bytes are read at a time: so few that most lines do not end where a block does.
 const BLOCK_BYTES: usize = 50;

@@ -2,7 +2,8 @@
 #![tactic(auto)]
 
 use bits::R;
-use commands::{Folders, HostPlaces, PART_BYTES};
+use commands::{Folders, PART_BYTES};
+use places::HostPlaces;
 use program::{HostPaths, OUTPUT_BUFFER_BYTES, Terminals, refusal_of, refuse, work};
 use std::env;
 use std::io::{BufWriter, IsTerminal};

@@ -12,7 +12,8 @@ use Rattle.gather.specs.declared.gathered.Gathered.{Gathered}
 use Rattle.gather.specs.GatheredRows.{holds, schema_of}
 use Rattle.table_commits.specs.Gathering.{AreGatheredFor}
 use Rattle.commands.specs.Lines.{IsRowText, AreRowTexts}
-use Rattle.commands.specs.Blocks.{AreKnown, AreWholeLines, AreRefusedIn, AreRefusedOf}
+use Rattle.places.specs.Blocks.{AreKnown}
+use Rattle.commands.specs.FileLines.{AreWholeLines, AreRefusedIn, AreRefusedOf}
 use Rattle.commands.specs.declared.gathering.LineGatherer.{LineGatherer}
 
 -- where some rows of these fields are gathered, they are then gathered with the row of a line

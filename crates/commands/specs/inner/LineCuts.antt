@@ -1,6 +1,6 @@
 -- Where bytes are cut into lines.
 use Rattle.std.specs.Prelude.{◌≡◌, ℕ, suc, ⊤, Bool, false, List, [], ◌∷◌, ◌++◌, ◌==◌, length, take}
-use Rattle.commands.specs.Blocks.{AreWholeLines}
+use Rattle.commands.specs.FileLines.{AreWholeLines}
 
 -- no byte is a line feed
 abbrev pub HasNoFeed : List ℕ → Type 0

@@ -4,7 +4,8 @@ use Rattle.std.specs.Str.Lines.{lines}
 use Rattle.bits.specs.declared.refusal.Refusal.TheVariants.{Limit}
 use Rattle.bits.specs.Refusals.{HasCause}
 use Rattle.vault.proofs.Chained.{refused}
-use Rattle.commands.specs.Blocks.{AreKnown, AreRefusedIn}
+use Rattle.places.specs.Blocks.{AreKnown}
+use Rattle.commands.specs.FileLines.{AreRefusedIn}
 use Rattle.commands.specs.inner.LineCuts.{IsLineLength, IsWholeLength}
 use Rattle.commands.specs.inner.GatheredRows.{HoldsLines, GathersBlock}
 use Rattle.commands.proofs.BlocksRead.{of_device, block_read, read_by, length_refused, piece_refused, piece_gathered}

@@ -1,7 +1,8 @@
 use Rattle.std.proofs.Common.{◌∙◌, Bool, ℕ, List, Ok, refl, sym, subst}
 use Rattle.std.specs.Prelude.{MatchResult}
 use Rattle.vault.proofs.Chained.{refused}
-use Rattle.commands.specs.Blocks.{AreKnown, AreRefusedOf}
+use Rattle.places.specs.Blocks.{AreKnown}
+use Rattle.commands.specs.FileLines.{AreRefusedOf}
 use Rattle.commands.specs.inner.GatheredRows.{HasRead, HasReadAll, GathersBlock}
 use Rattle.commands.proofs.BlocksRead.{none_read, of_shut}
 use Rattle.commands.proofs.gathering.LineGatherer.gather_file.Goals as goal

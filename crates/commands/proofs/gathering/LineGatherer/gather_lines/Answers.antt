@@ -7,7 +7,7 @@ use Rattle.std.proofs.lemmas.Iterator.Splits.{YieldsList-from_lines}
 use Rattle.vault.proofs.Chained.{refused}
 use Rattle.std.specs.Prelude.{MatchResult}
 use Rattle.lists.proofs.Slices.{parts_around as split_there}
-use Rattle.commands.specs.Blocks.{AreRefusedIn}
+use Rattle.commands.specs.FileLines.{AreRefusedIn}
 use Rattle.commands.specs.inner.GatheredRows.{HoldsLines}
 use Rattle.commands.proofs.BlocksRead.{held_by, held_of, refused_with}
 use Rattle.commands.proofs.gathering.LineGatherer.gather_lines.Goals as goal

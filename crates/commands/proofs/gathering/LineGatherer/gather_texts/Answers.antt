@@ -3,7 +3,7 @@ use Rattle.std.specs.Prelude.{IsUtf8, MatchResult}
 use Rattle.std.specs.Str.Lines.{lines}
 use Rattle.std.proofs.lemmas.Str.{IsUtf8-append, IsUtf8-nil}
 use Rattle.vault.proofs.Chained.{refused}
-use Rattle.commands.specs.Blocks.{AreWholeLines, AreRefusedIn}
+use Rattle.commands.specs.FileLines.{AreWholeLines, AreRefusedIn}
 use Rattle.commands.specs.inner.GatheredRows.{HoldsLines}
 use Rattle.commands.proofs.WholeLines.{line_itself, lines_more, whole_more, lines_around}
 use Rattle.commands.proofs.BlocksRead.{held_of, refused_with}

@@ -3,7 +3,7 @@ use Rattle.std.specs.Prelude.{IsUtf8}
 use Rattle.std.specs.Str.Lines.{lines}
 use Rattle.footer.specs.declared.options.WriteOptions.{WriteOptions}
 use Rattle.manifest.specs.Groups.{Root}
-use Rattle.commands.specs.Blocks.{AreWholeLines}
+use Rattle.commands.specs.FileLines.{AreWholeLines}
 use Rattle.commands.specs.inner.GatheredRows.{HoldsLines}
 use Rattle.commands.proofs.gathering.LineGatherer.gather_texts.Given as goal
 

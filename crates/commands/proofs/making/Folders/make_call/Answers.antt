@@ -1,6 +1,6 @@
 use Rattle.std.proofs.Common.{refl}
 use Rattle.commands.specs.Calls.{made}
-use Rattle.commands.proofs.PlacesKept.{stays_so}
+use Rattle.places.proofs.PlacesKept.{stays_so}
 use Rattle.commands.proofs.CallMade.{no_memory_of}
 use Rattle.commands.proofs.making.Folders.make_call.Goals as goal
 

@@ -1,7 +1,7 @@
 use Rattle.std.proofs.Common.{refl, Ok, Err}
 use Rattle.manifest.specs.Groups.{root_of}
 use Rattle.commands.specs.Calls.{lines_read}
-use Rattle.commands.proofs.PlacesKept.{carried}
+use Rattle.places.proofs.PlacesKept.{carried}
 use Rattle.commands.proofs.BlocksRead.{of_shut}
 use Rattle.commands.proofs.TablesFound.{no_file_of, no_table_of, no_rows_of, in_folder_so, changes_so}
 use Rattle.commands.proofs.making.Making.append.Goals as goal

@@ -1,10 +1,10 @@
 use Rattle.std.proofs.Common.{◌≡◌, ◌++◌, ◌∷◌, ◌∙◌, [], ℕ, List, Vec, Global, take, ap, sym, subst}
 use Rattle.std.proofs.lemmas.List.{map_push}
 use Rattle.bits.proofs.Passing.{passes}
-use Rattle.commands.specs.Places.{AreFilesAt, AreKeptAmong}
+use Rattle.places.specs.Places.{AreFilesAt, AreKeptAmong}
 use Rattle.commands.specs.Importing.{files_view}
 use Rattle.commands.specs.Tasks.{lent_texts}
-use Rattle.commands.proofs.PlacesKept.{among_before, stays_then}
+use Rattle.places.proofs.PlacesKept.{among_before, stays_then}
 use Rattle.commands.proofs.FilesRead.{one_more_read, one_more_text, kept_at}
 use Rattle.commands.proofs.making.Making.bytes_at.Goals as goal
 

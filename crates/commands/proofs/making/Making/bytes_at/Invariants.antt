@@ -1,5 +1,5 @@
 use Rattle.std.proofs.Common.{take}
-use Rattle.commands.specs.Places.{StaysKnown, AreFilesAt}
+use Rattle.places.specs.Places.{StaysKnown, AreFilesAt}
 use Rattle.commands.specs.Importing.{files_view}
 use Rattle.commands.specs.Tasks.{lent_texts}
 use Rattle.commands.proofs.making.Making.bytes_at.Given as goal

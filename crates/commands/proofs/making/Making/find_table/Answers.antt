@@ -1,4 +1,4 @@
-use Rattle.commands.proofs.PlacesKept.{carried, not_had_of}
+use Rattle.places.proofs.PlacesKept.{carried, not_had_of}
 use Rattle.commands.proofs.making.Making.find_table.Goals as goal
 
 pub returns-in_err-lock-clause-finds : goal.returns-in_err-lock-clause-finds

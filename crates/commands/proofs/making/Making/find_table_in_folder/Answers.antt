@@ -1,5 +1,5 @@
-use Rattle.commands.specs.Places.{given_back}
-use Rattle.commands.proofs.PlacesKept.{but_then, not_had_of}
+use Rattle.places.specs.Places.{given_back}
+use Rattle.places.proofs.PlacesKept.{but_then, not_had_of}
 use Rattle.commands.proofs.making.Making.find_table_in_folder.Goals as goal
 
 pub returns-in_err-disk : goal.returns-in_err-disk

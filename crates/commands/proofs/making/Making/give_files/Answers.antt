@@ -1,6 +1,6 @@
 use Rattle.std.proofs.Common.{refl}
 use Rattle.commands.specs.Calls.{of_question}
-use Rattle.commands.proofs.PlacesKept.{carried, not_had_of}
+use Rattle.places.proofs.PlacesKept.{carried, not_had_of}
 use Rattle.commands.proofs.making.Making.give_files.Goals as goal
 
 pub returns-in_err-lock-clause-gives : goal.returns-in_err-lock-clause-gives

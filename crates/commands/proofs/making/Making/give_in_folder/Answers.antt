@@ -1,6 +1,6 @@
 use Rattle.std.proofs.Common.{refl}
-use Rattle.commands.specs.Places.{given_back}
-use Rattle.commands.proofs.PlacesKept.{but_then, not_had_of}
+use Rattle.places.specs.Places.{given_back}
+use Rattle.places.proofs.PlacesKept.{but_then, not_had_of}
 use Rattle.commands.proofs.making.Making.give_in_folder.Goals as goal
 
 pub returns-in_err-disk-clause-gives : goal.returns-in_err-disk-clause-gives

@@ -1,7 +1,7 @@
 use Rattle.std.proofs.Common.{◌≡◌, refl, sym, subst}
 use Rattle.dataset_words.specs.declared.call.Call.{Call}
 use Rattle.commands.specs.Calls.{GivesAsked, no_filter}
-use Rattle.commands.proofs.PlacesKept.{gives_before}
+use Rattle.commands.proofs.CallsKept.{gives_before}
 use Rattle.commands.proofs.CallMade.{no_filter_of, filtered_so, none_read}
 use Rattle.commands.proofs.making.Making.give_with_filter.Goals as goal
 

@@ -1,5 +1,5 @@
 use Rattle.std.proofs.Common.{refl}
-use Rattle.commands.proofs.PlacesKept.{carried, not_had_of}
+use Rattle.places.proofs.PlacesKept.{carried, not_had_of}
 use Rattle.commands.proofs.making.Making.look_alone.Goals as goal
 
 pub returns-in_err-lock-clause-looks : goal.returns-in_err-lock-clause-looks

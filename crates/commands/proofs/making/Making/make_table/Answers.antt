@@ -2,7 +2,7 @@ use Rattle.std.proofs.Common.{ℕ, List, map, refl, ap, subst, ◌∙◌}
 use Rattle.std.specs.Prelude.{string_bytes}
 use Rattle.commands.specs.Creating.{Creates, of_schema, not_begun}
 use Rattle.commands.specs.Calls.{state_within, disk_within}
-use Rattle.commands.proofs.PlacesKept.{stays_so}
+use Rattle.places.proofs.PlacesKept.{stays_so}
 use Rattle.commands.proofs.NewFolders.{not_begun_of}
 use Rattle.commands.proofs.making.Making.make_table.Goals as goal
 

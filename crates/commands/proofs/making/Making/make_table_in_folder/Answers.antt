@@ -1,5 +1,5 @@
-use Rattle.commands.specs.Places.{given_back}
-use Rattle.commands.proofs.PlacesKept.{carried, but_then, not_had_of}
+use Rattle.places.specs.Places.{given_back}
+use Rattle.places.proofs.PlacesKept.{carried, but_then, not_had_of}
 use Rattle.commands.proofs.NewFolders.{then_still}
 use Rattle.commands.proofs.making.Making.make_table_in_folder.Goals as goal
 

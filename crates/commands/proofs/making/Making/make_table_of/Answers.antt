@@ -1,6 +1,6 @@
 use Rattle.std.proofs.Common.{refl, Err}
-use Rattle.commands.specs.Places.{not_had}
-use Rattle.commands.proofs.PlacesKept.{carried}
+use Rattle.places.specs.Places.{not_had}
+use Rattle.places.proofs.PlacesKept.{carried}
 use Rattle.commands.proofs.NewFolders.{of_made, unmade, not_made_of}
 use Rattle.commands.proofs.making.Making.make_table_of.Goals as goal
 

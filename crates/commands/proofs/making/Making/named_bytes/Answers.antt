@@ -2,7 +2,7 @@ use Rattle.std.proofs.Common.{◌∙◌, ℕ, List, IfOk, IfErr, ap, subst}
 use Rattle.bits.proofs.Passing.{passes}
 use Rattle.commands.specs.Tasks.{lent_texts}
 use Rattle.commands.specs.Importing.{files_view}
-use Rattle.commands.specs.Places.{AreFilesAt, AreKeptAmong}
+use Rattle.places.specs.Places.{AreFilesAt, AreKeptAmong}
 use Rattle.commands.specs.Calls.{named_paths}
 use Rattle.commands.proofs.FilesRead.{memory_among}
 use Rattle.commands.proofs.making.Making.named_bytes.Goals as goal

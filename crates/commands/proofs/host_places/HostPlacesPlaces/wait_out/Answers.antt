@@ -1,5 +1,0 @@
-use Rattle.commands.proofs.HostKnown.{unknown}
-use Rattle.commands.proofs.host_places.HostPlacesPlaces.wait_out.Goals as goal
-
-pub returns-clause-refused : goal.returns-clause-refused
-returns-clause-refused g c = unknown c.waited_out.result c.waited_out.ensures.which

@@ -1,0 +1,4 @@
+mod FileEnds
+pub mod PlacesKept
+mod HostKnown
+mod BlocksPut

@@ -1,0 +1,5 @@
+use Rattle.places.proofs.HostKnown.{unknown}
+use Rattle.places.proofs.host_places.HostPlacesPlaces.lock.Goals as goal
+
+pub returns-clause-refused : goal.returns-clause-refused
+returns-clause-refused g c = unknown c.locked.result c.locked.ensures.which

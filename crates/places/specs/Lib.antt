@@ -1,0 +1,3 @@
+pub mod FileEnds
+pub mod Blocks
+pub mod Places
