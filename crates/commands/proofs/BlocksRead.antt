@@ -16,7 +16,7 @@ use Rattle.manifest.specs.Groups.{Root}
 use Rattle.gather.specs.declared.gathered.Gathered.{Gathered}
 use Rattle.gather.specs.GatheredRows.{holds}
 use Rattle.table_commits.specs.Gathering.{AreGatheredFor, KeepsTable}
-use Rattle.commands.specs.Lines.{AreRowTexts, IsRefusedLine}
+use Rattle.commands.specs.RowLines.{AreRowTexts, IsRefusedLine}
 use Rattle.places.specs.Blocks.{AreKnown, ReadsBlock}
 use Rattle.commands.specs.FileLines.{IsRefusedIn, HasFirstFaultIn, AreRefusedIn, AreRefusedOf}
 use Rattle.commands.specs.inner.LineCuts.{IsLineLength, IsWholeLength}

@@ -3,7 +3,7 @@ use Rattle.std.proofs.Common.{◌≡◌, ◌≢◌, ◌==◌, ℕ, Bool, true, f
 use Rattle.std.specs.Prelude.{MatchOption}
 use Rattle.std.proofs.lemmas.Bool.Decides.{nat_tests}
 use Rattle.std.specs.Borrow.{Bor}
-use Rattle.commands.specs.Tasks.{lent_text}
+use Rattle.answers.specs.Making.{lent_text}
 use Rattle.commands.specs.Calls.{after_at}
 
 -- the clause of `strip_prefix` at a `@`

@@ -1,26 +1,9 @@
 mod Told
-mod Called
-mod Answered
-mod OneByOne
-mod Wanted
-mod Selected
-mod FirstOf
-mod Batched
-mod OkThen
-mod GatheredLines
 mod RowsGathered
-mod Counted
 mod Stopped
-mod UnlessThere
-mod Renewed
-mod PartsGiven
 mod FilesGiven
-mod FilesOfQuery
 mod StagedFiles
-mod ToldColumns
 mod TasksMade
-mod Restyled
-pub mod FirstKept
 mod CallMade
 mod FilesRead
 mod FilterNamed

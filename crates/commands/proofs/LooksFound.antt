@@ -14,7 +14,7 @@ use Rattle.manifest.specs.Table.{path_of_group}
 use Rattle.upkeep.specs.Intact.{AreHeld}
 use Rattle.dataset_words.specs.declared.call.Look.{Look}
 use Rattle.dataset_words.specs.declared.call.Look.TheVariants.{Survey, Files, Rows}
-use Rattle.commands.specs.Lines.{AreRowTexts}
+use Rattle.commands.specs.RowLines.{AreRowTexts}
 use Rattle.commands.specs.Looking.{MayBeNote, LinesFit, Finds, FindsTable}
 
 -- lines that are rows, and what is printed of them in two parts

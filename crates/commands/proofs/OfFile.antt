@@ -12,7 +12,7 @@ use Rattle.dataset_words.specs.declared.call.Task.TheVariants.{Ask}
 use Rattle.dataset_words.specs.declared.call.Question.{Question}
 use Rattle.dataset_words.specs.declared.call.Question.TheVariants.{Query, Count, Groups, Schema}
 use Rattle.jsonrows.specs.SchemaPrinted.{PrintsFields}
-use Rattle.commands.specs.Querying.{IsSchemaOfFile}
+use Rattle.answers.specs.Querying.{IsSchemaOfFile}
 use Rattle.places.specs.Places.{Known, HasEnds}
 use Rattle.commands.specs.Calls.{MayBeOfFile, PrintsOfFile}
 

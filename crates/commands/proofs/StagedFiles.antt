@@ -14,10 +14,10 @@ use Rattle.table.specs.Refusing.{Happens, IsRefused, Stays, checked, stale, fore
 use Rattle.table_state.specs.declared.standing.Core.{Core}
 use Rattle.table_state.specs.Stands.{Stands}
 use Rattle.table_state.specs.Promises.{ActsFrom}
-use Rattle.commands.specs.Querying.{ActsOn}
+use Rattle.answers.specs.Querying.{ActsOn}
 use Rattle.commands.specs.Importing.{files_view, MeanRows, StagesFiles, IsRefusedFile, RefusesFile, StopsAtFile, ImportsNone, not_opened, not_staged}
 use Rattle.commands.specs.inner.Staged.{StagesOne}
-use Rattle.commands.proofs.OneByOne.{one_behind}
+use Rattle.answers.proofs.OneByOne.{one_behind}
 
 -- ---- what a call leaves of the table
 

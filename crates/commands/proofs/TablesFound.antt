@@ -1,28 +1,19 @@
 -- The table that an append finds, and what comes of the rows that are read for it.
-use Rattle.std.proofs.Common.{◌≡◌, ◌∙◌, ℕ, false, List, Option, Result, Ok, Err, IsErrAnd, refl, sym, ap}
+use Rattle.std.proofs.Common.{◌≡◌, ℕ, List, Option, Result, Ok, Err, IsErrAnd, refl, ap}
 use Rattle.std.specs.Prelude.{⊤, IfOk}
 use Rattle.bits.specs.declared.refusal.Refusal.{Refusal}
-use Rattle.bits.specs.declared.refusal.Refusal.TheVariants.{Memory, Schema}
+use Rattle.bits.specs.declared.refusal.Refusal.TheVariants.{Memory}
 use Rattle.bits.specs.Refusals.{HasCause, RefusedMemoryOnly}
 use Rattle.disk.specs.State.{State as DiskState}
 use Rattle.footer.specs.declared.options.WriteOptions.{WriteOptions}
-use Rattle.manifest.specs.Groups.{Root, root_of}
+use Rattle.manifest.specs.Groups.{root_of}
 use Rattle.manifest.specs.declared.description.Manifest.{Manifest}
-use Rattle.schema.specs.Values.{ValueTrees}
-use Rattle.gather.specs.declared.gathered.Gathered.{Gathered}
-use Rattle.gather.specs.GatheredRows.{holds}
-use Rattle.table.specs.State.{State}
-use Rattle.table.specs.Calls.{append, done}
-use Rattle.table.specs.Views.{answered}
 use Rattle.table_state.specs.declared.standing.Core.{Core}
-use Rattle.table_commits.specs.Gathering.{AreGatheredFor}
-use Rattle.table_state.specs.Stands.{Stands}
-use Rattle.table_state.specs.Promises.{Acts}
 use Rattle.dataset_words.specs.declared.call.Call.{Call}
 use Rattle.commands.specs.Opening.{OpensToRead}
 use Rattle.places.specs.Places.{Known, StaysKnown, IsKeptFrom, InFolder, given_back, not_had}
 use Rattle.commands.specs.FileLines.{AreRefusedOf}
-use Rattle.commands.specs.Appending.{FindsTable, found, not_told, AppendsFrom}
+use Rattle.commands.specs.FoundTable.{FindsTable, found, not_told}
 use Rattle.commands.specs.Calls.{AppendsLines, no_file, no_table, no_rows, ChangesDisk, changed, not_opened, state_within, disk_within}
 use Rattle.commands.specs.declared.watched.Watched.{Watched}
 
@@ -73,26 +64,3 @@ pub changes_so : {D S : Type 0} {state : D → DiskState} {options : WriteOption
     → ChangesDisk state options Comes before after old new result → ChangesDisk state options Others before after old new result
 changes_so Comes Others result so (changed opened to cleaned opens comes cleans back) = changed opened to cleaned opens (so _ to comes) cleans back
 changes_so Comes Others result so (not_opened e opens unprinted is) = not_opened e opens unprinted is
-
--- ---- rows
-
-module _ {D : Type 0} (state : D → DiskState) (root : Root) (options : WriteOptions) (given : List ValueTrees) (old new : Core D) (g : Gathered) (result : Result ℕ Refusal) where
-  -- gathered rows were appended, or are of another table
-  pub appended_from : holds g given → AreGatheredFor root options g
-      → ((rows : List ValueTrees) → holds g rows → AreGatheredFor (root_of old.manifest) old.options g → Acts state old new (append rows) (answered done result))
-      → ((AreGatheredFor (root_of old.manifest) old.options g → ⊥) → old.closed ≡ false → (result ≡ Err Schema) × (new ≡ old))
-      → (state old.vault.disk).honest → (s : State) → Stands state old s → AppendsFrom state root options given old new result s
-  appended_from held table acts other honest s stands =
-      let shows = stands.shows in
-      record {
-        still = λ is. acts given held (record {
-          schema = table.schema ∙ (is.schema ∙ sym shows.schema);
-          columns = table.columns ∙ (is.keys ∙ sym shows.keys);
-          size = table.size ∙ (is.size ∙ sym (ap (λ (o : WriteOptions). o.group_rows) shows.options));
-        }) honest s stands;
-        other = λ none open_yet. other (λ is. none (record {
-          schema = sym table.schema ∙ (is.schema ∙ shows.schema);
-          keys = sym table.columns ∙ (is.columns ∙ shows.keys);
-          size = sym table.size ∙ (is.size ∙ ap (λ (o : WriteOptions). o.group_rows) shows.options);
-        })) open_yet;
-      }

@@ -14,13 +14,13 @@ use Rattle.table.specs.State.{State}
 use Rattle.table.specs.Views.{names_view}
 use Rattle.table_state.specs.declared.standing.Core.{Core}
 use Rattle.commands.specs.Importing.{files_view}
-use Rattle.commands.specs.Making.{RunsScript, RunsScriptFrom, ran, not_run}
-use Rattle.commands.specs.Querying.{Reads, read, not_read}
+use Rattle.answers.specs.Making.{RunsScript, RunsScriptFrom, ran, not_run}
+use Rattle.answers.specs.Querying.{Reads, read, not_read}
 use Rattle.commands.specs.Stopping.{RunsToRefusal, RunsToRefusalFrom, ran_to, not_ran}
 use Rattle.commands.specs.Tasks.{columns_named, first_file, MakesAsked, ImportsAsked, ImportsSeveral}
-use Rattle.commands.specs.Unless.{AsksImport}
+use Rattle.answers.specs.Unless.{AsksImport}
 use Rattle.commands.specs.declared.stopping.Stop.{Stop}
-use Rattle.commands.proofs.OkThen.{ok_always}
+use Rattle.answers.proofs.OkThen.{ok_always}
 
 -- ---- questions
 

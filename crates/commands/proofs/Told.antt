@@ -10,7 +10,7 @@ use Rattle.schema.specs.Values.{ValueTrees}
 use Rattle.schema.specs.Shape.{Fields}
 use Rattle.schema.specs.declared.row.Row.{Row}
 use Rattle.schema.specs.Views.{row_view, rows_view}
-use Rattle.commands.specs.Lines.{IsRowText, AreRowTexts, IsRefusedLine, HasFirstFault}
+use Rattle.commands.specs.RowLines.{IsRowText, AreRowTexts, IsRefusedLine, HasFirstFault}
 
 -- the texts of some rows, and that of one more
 pub one_more : (texts : Bool) (fs : Fields) (lines : List (List ℕ)) (rows : List ValueTrees) (text : List ℕ) (row : ValueTrees) → AreRowTexts texts fs lines rows

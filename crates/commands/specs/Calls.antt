@@ -25,15 +25,17 @@ use Rattle.dataset_words.specs.declared.call.Change.TheVariants.{Append, Import,
 use Rattle.dataset_words.specs.declared.call.Look.TheVariants.{Files, Rows}
 use Rattle.jsonrows.specs.SchemaPrinted.{PrintsFields}
 use Rattle.jsonrows.specs.SchemaJson.{IsSchemaText}
-use Rattle.commands.specs.Querying.{IsSchemaOfFile}
+use Rattle.answers.specs.Querying.{IsSchemaOfFile}
 use Rattle.places.specs.Places.{Known, StaysKnown, IsKeptFrom, AreKeptAmong, AreFilesAt, InFolder, HasEnds}
 use Rattle.commands.specs.Creating.{Creates}
 use Rattle.commands.specs.Looking.{LooksInFolder}
 use Rattle.commands.specs.Opening.{OpensToRead, OpensToChange, MayCleanUp}
-use Rattle.commands.specs.Lines.{AreRowTexts}
+use Rattle.commands.specs.RowLines.{AreRowTexts}
 use Rattle.commands.specs.FileLines.{AreRefusedOf}
-use Rattle.commands.specs.Appending.{FindsTable, AppendsRows}
-use Rattle.commands.specs.Tasks.{lent_text, lent_texts, first_file, PrintsAnswer, MakesInStyle, RunsBytes, RunsBytesToRefusal, GivesAnswer}
+use Rattle.commands.specs.FoundTable.{FindsTable}
+use Rattle.answers.specs.Appending.{AppendsRows}
+use Rattle.answers.specs.Making.{lent_text}
+use Rattle.commands.specs.Tasks.{lent_texts, first_file, PrintsAnswer, MakesInStyle, RunsBytes, RunsBytesToRefusal, GivesAnswer}
 use Rattle.commands.specs.declared.watched.Watched.{Watched}
 
 -- ---- questions

@@ -7,7 +7,7 @@ use Rattle.bits.specs.declared.refusal.Refusal.TheVariants.{Device, Limit, Scrip
 use Rattle.bits.specs.Refusals.{HasCause}
 use Rattle.schema.specs.Shape.{Fields}
 use Rattle.schema.specs.Values.{ValueTrees}
-use Rattle.commands.specs.Lines.{AreRowTexts, IsRefusedLine}
+use Rattle.commands.specs.RowLines.{AreRowTexts, IsRefusedLine}
 
 -- bytes are whole lines: none, or the last of them is a line feed
 abbrev pub AreWholeLines : List ℕ → Type 0

@@ -15,8 +15,8 @@ use Rattle.table.specs.Views.{answered}
 use Rattle.table_state.specs.declared.standing.Core.{Core}
 use Rattle.table_state.specs.Stands.{Stands}
 use Rattle.table_state.specs.Promises.{ActsFrom}
-use Rattle.commands.specs.Querying.{ActsOn}
-use Rattle.commands.specs.Unless.{UnlessFrom}
+use Rattle.answers.specs.Querying.{ActsOn}
+use Rattle.answers.specs.Unless.{UnlessFrom}
 
 -- the bytes of files
 abbrev pub files_view : List (Vec ℕ Global) → List (List ℕ)

@@ -14,7 +14,7 @@ use Rattle.manifest.specs.Root.{RootMeans}
 use Rattle.upkeep.specs.Intact.{AreHeld}
 use Rattle.dataset_words.specs.declared.call.Look.{Look}
 use Rattle.dataset_words.specs.declared.call.Look.TheVariants.{Survey, Files, Rows}
-use Rattle.commands.specs.Lines.{AreRowTexts}
+use Rattle.commands.specs.RowLines.{AreRowTexts}
 use Rattle.places.specs.Places.{Known, StaysKnown, InFolder}
 
 -- ---- what a look finds

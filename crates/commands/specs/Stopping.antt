@@ -15,7 +15,7 @@ use Rattle.table.specs.declared.answer.Answer.{Answer as CodeAnswer}
 use Rattle.table_state.specs.declared.standing.Core.{Core}
 use Rattle.table_state.specs.Stands.{Stands}
 use Rattle.store.specs.Running.{RunsFrom}
-use Rattle.commands.specs.Lines.{AreCallTexts, AreRefusedCalls, AreAnswerLines}
+use Rattle.answers.specs.Lines.{AreCallTexts, AreRefusedCalls, AreAnswerLines}
 use Rattle.commands.specs.declared.stopping.Stop.{Stop}
 
 -- whether an answer is not a refusal

@@ -1,6 +1,6 @@
 -- What comes of a task on a store: what a question prints, what a change makes, and what a script does.
 use Rattle.std.specs.Prelude.{◌≡◌, ℕ, Bool, true, false, List, [], ◌∷◌, ◌++◌, codes, decimal, map}
-use Rattle.std.specs.Prelude.{Option, Some, None, option_map, Result, Ok, Err, OnOk, IsOk, IsUtf8}
+use Rattle.std.specs.Prelude.{Option, Some, None, Result, Ok, Err, OnOk, IsOk, IsUtf8}
 use Rattle.std.specs.Borrow.{Bor}
 use Rattle.std.specs.Io.KnownBytes.{Appends}
 use Rattle.serde_json.specs.Data.{Items, array}
@@ -28,16 +28,16 @@ use Rattle.jsonrows.specs.SchemaPrinted.{PrintsFields}
 use Rattle.table_state.specs.declared.standing.Core.{Core}
 use Rattle.table_state.specs.Stands.{Stands}
 use Rattle.table_state.specs.Promises.{Acts}
-use Rattle.commands.specs.Making.{Makes, AsksRemove, AsksColumn, Rewrites, RewritesPlanned, RunsScript}
-use Rattle.commands.specs.Querying.{Reads, query_lines, ListsGroups}
-use Rattle.commands.specs.GroupColumns.{ListsColumns}
-use Rattle.commands.specs.First.{first_lines}
-use Rattle.commands.specs.QueryFile.{GotQueryFiles}
-use Rattle.commands.specs.Kept.{IsRestyled, StaysOpened}
+use Rattle.answers.specs.Making.{lent_text, Makes, AsksRemove, AsksColumn, Rewrites, RewritesPlanned, RunsScript}
+use Rattle.answers.specs.Querying.{Reads, query_lines, ListsGroups}
+use Rattle.answers.specs.GroupColumns.{ListsColumns}
+use Rattle.answers.specs.First.{first_lines}
+use Rattle.answers.specs.QueryFile.{GotQueryFiles}
+use Rattle.answers.specs.Kept.{IsRestyled, StaysOpened}
 use Rattle.commands.specs.Importing.{ImportsFiles, ImportsUnless}
-use Rattle.commands.specs.Renewing.{RewritesAllGroups}
+use Rattle.answers.specs.Renewing.{RewritesAllGroups}
 use Rattle.commands.specs.Stopping.{RunsToRefusal}
-use Rattle.commands.specs.Unless.{MakesUnless, AsksImport}
+use Rattle.answers.specs.Unless.{MakesUnless, AsksImport}
 use Rattle.commands.specs.declared.stopping.Stop.{Stop}
 
 -- What comes of bytes that are a text. Bytes that are none are refused Script, and all is as it was.
@@ -48,10 +48,6 @@ pub record IfText {T : Type 0} (bytes : List ℕ) (Comes Unchanged : Type 0) (re
 -- the texts that are lent, in their order
 abbrev pub lent_texts : List (Bor (List ℕ)) → List (List ℕ)
 lent_texts texts = map (λ (t : Bor (List ℕ)). t.now) texts
-
--- a text that is lent, if there is one
-abbrev pub lent_text : Option (Bor (List ℕ)) → Option (List ℕ)
-lent_text text = option_map (λ t. t.now) text
 
 -- ---- questions
 

@@ -1,31 +1,23 @@
 //! Rows of lines that are appended: they are read while nobody is kept from the dataset.
 
-ghost use Rattle.std.specs.Prelude.{◌≡◌, ⊤, List, false, IfOk, IfErr};
-ghost use Rattle.schema.specs.Values.{ValueTrees};
-ghost use Rattle.footer.specs.declared.options.WriteOptions.{WriteOptions};
-ghost use Rattle.manifest.specs.Groups.{Root, root_of};
-ghost use Rattle.gather.specs.GatheredRows.{holds};
-ghost use Rattle.table_commits.specs.Gathering.{AreGatheredFor};
-ghost use Rattle.commands.specs.Appending.{AppendsRows, FindsTable};
+ghost use Rattle.std.specs.Prelude.{◌≡◌, ⊤, false, IfOk, IfErr};
+ghost use Rattle.manifest.specs.Groups.{root_of};
+ghost use Rattle.commands.specs.FoundTable.{FindsTable};
 ghost use Rattle.places.specs.Blocks.{AreKnown};
 ghost use Rattle.commands.specs.FileLines.{AreRefusedOf};
 ghost use Rattle.places.specs.Places.{InFolder};
-ghost use Rattle.commands.specs.Tasks.{lent_text};
+ghost use Rattle.answers.specs.Making.{lent_text};
 ghost use Rattle.commands.specs.Calls.{AppendsLines, state_within, disk_within};
 ghost use Rattle.commands.specs.inner.GatheredRows.{HasReadAll};
 
 use crate::gathering::{LineGatherer, gathered_lines};
 use crate::making::{Making, root_reason};
 use crate::opening::Brought;
-use crate::unless::append_unless;
 use bits::R;
 use disk::Disk;
-use gather::Gathered;
 use manifest::Manifest;
 use places::{BlockReader, Places, Reason};
-use std::alloc::Global;
 use std::io::Write;
-use store::Store;
 
 impl<S: Write + Clone + Drop> Making<'_, S> {
     /// Appends the rows of the lines of the file at a path; where there is a filter, unless some row satisfies it. The file is opened
@@ -33,7 +25,7 @@ impl<S: Write + Clone + Drop> Making<'_, S> {
     /// are read.
     ///
     /// Refused Device where the file cannot be read, which is noted; as the opening of the dataset; for the first line that is no row,
-    /// as [`gathered_lines`]; and then as [`append_rows`].
+    /// as [`gathered_lines`]; and then as [`append_rows`](answers::append_rows).
     pub(crate) fn append<P: Places, W: Write, E: Write>(
         &self,
         places: &mut P,
@@ -117,26 +109,5 @@ impl<S: Write + Clone + Drop> Making<'_, S> {
                 (disk, Err(refusal))
             }
         }
-    }
-}
-
-/// Appends rows that were gathered for a table; where there is a filter, unless some row satisfies it: then it returns 0, and nothing
-/// is appended. With `texts`, dates, times, timestamps and decimals are also read from their texts in the filter.
-///
-/// Refused as [`append_unless`], and as `Store::append_gathered`: Schema where the store has another table than the one for which
-/// the rows were gathered, and then nothing is appended.
-pub fn append_rows<D: Disk>(
-    alloc: Global,
-    store: &mut Store<D>,
-    unless: Option<&str>,
-    rows: Gathered<'_>,
-    texts: bool,
-) -> R<u64>
-    ensures appends { (root : Root) (options : WriteOptions) (given : List ValueTrees) → holds rows.entry given → AreGatheredFor root options rows.entry
-        → AppendsRows D.state texts root options given (lent_text unless.entry) store.old store.new result }
-{
-    match unless {
-        Some(filter) => append_unless(alloc, store, filter, rows, texts),
-        None => store.append_gathered(alloc, rows),
     }
 }

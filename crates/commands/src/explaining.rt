@@ -1,11 +1,11 @@
 //! Which reason a refusal has, found after it: nothing here decides what is refused.
 
-use crate::comparing::same_schema;
 use crate::import_reason::import_reason;
 use crate::key_reason::keys_reason;
 use crate::line_notes::RowNotes;
 use crate::part_reason::is_of_bytes;
 use crate::texts::text_of;
+use answers::same_schema;
 use bits::{R, Refusal};
 use dataset_words::{Change, Question};
 use disk::Disk;

@@ -2,7 +2,7 @@
 
 ghost use Rattle.std.specs.Prelude.{◌≡◌, ◌⊎◌, None, option_and_then, IfOk, IfErr, IsUtf8};
 ghost use Rattle.bits.specs.Refusals.{HasCause};
-ghost use Rattle.commands.specs.Tasks.{lent_text};
+ghost use Rattle.answers.specs.Making.{lent_text};
 ghost use Rattle.commands.specs.Calls.{filter_by_words, filter_path, after_at, HasFilter, IsFiltered};
 
 use crate::texts::text_of;

@@ -8,7 +8,7 @@ ghost use Rattle.footer.specs.declared.options.WriteOptions.{WriteOptions as Opt
 ghost use Rattle.manifest.specs.Groups.{Root, root_of};
 ghost use Rattle.rowtext.specs.Reader.{schema_of};
 ghost use Rattle.table_commits.specs.Gathering.{KeepsTable};
-ghost use Rattle.commands.specs.Lines.{IsRefusedLine};
+ghost use Rattle.commands.specs.RowLines.{IsRefusedLine};
 ghost use Rattle.places.specs.Blocks.{AreKnown};
 ghost use Rattle.commands.specs.FileLines.{AreRefusedOf};
 ghost use Rattle.commands.specs.inner.LineCuts.{IsLineLength};

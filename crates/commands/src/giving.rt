@@ -5,14 +5,15 @@ ghost use Rattle.bits.specs.declared.refusal.Refusal.TheVariants.{Script};
 ghost use Rattle.commands.specs.Importing.{files_view};
 ghost use Rattle.places.specs.Places.{InFolder};
 ghost use Rattle.commands.specs.Calls.{Gives, GivesAsked, Filtered, filter_path, state_within, disk_within};
-ghost use Rattle.commands.specs.Tasks.{lent_text, lent_texts, columns_named, GivesQuery, GivesAnswer};
+ghost use Rattle.answers.specs.Making.{lent_text};
+ghost use Rattle.commands.specs.Tasks.{lent_texts, columns_named, GivesQuery, GivesAnswer};
 
 use crate::explaining::{filter_text_reason, question_reason};
 use crate::filter_file::{filter_file, with_filter};
 use crate::making::{Making, root_reason};
 use crate::tasks::found;
 use crate::texts::{columns_named, owned};
-use crate::writing_query::query_files;
+use answers::query_files;
 use bits::{R, Refusal};
 use dataset_words::{FileSink, Question, Task};
 use disk::Disk;

@@ -6,8 +6,7 @@ ghost use Rattle.table_state.specs.Stands.{Stands};
 ghost use Rattle.commands.specs.Importing.{files_view, ImportsFiles, ImportsUnless};
 ghost use Rattle.commands.specs.inner.Staged.{StagesAll, StagesOne};
 
-use crate::comparing::same_schema;
-use crate::unless::count_rows;
+use answers::{count_rows, same_schema};
 use bits::{R, Refusal};
 use disk::Disk;
 use footer::read_file;

@@ -7,12 +7,12 @@ ghost use Rattle.schema.specs.Values.{ValueTrees};
 ghost use Rattle.manifest.specs.Groups.{root_of};
 ghost use Rattle.upkeep.specs.Intact.{AreHeld};
 ghost use Rattle.upkeep.specs.Reading.{Looks};
-ghost use Rattle.commands.specs.Lines.{AreRowTexts};
+ghost use Rattle.commands.specs.RowLines.{AreRowTexts};
 
 use crate::key_reason::rows_reason;
-use crate::printing::write_text;
 use crate::row_lines::rows_of;
 use crate::survey_json::json_of_survey;
+use answers::write_text;
 use bits::{R, Refusal};
 use disk::Disk;
 use manifest::Manifest;

@@ -16,8 +16,9 @@ ghost use Rattle.commands.specs.Calls.{MayBeOfFile, PrintsOfFile, OnFolder, OnFi
 ghost use Rattle.commands.specs.Calls.{GivesCall, GivesNoFile, IsPassedOn};
 ghost use Rattle.commands.specs.Calls.{named_paths, append_of, filter_path, state_within, disk_within};
 ghost use Rattle.commands.specs.Looking.{LinesFit, Finds, LooksOnly, LooksInFolder};
-ghost use Rattle.commands.specs.Querying.{IsSchemaOfFile};
-ghost use Rattle.commands.specs.Tasks.{lent_text, lent_texts};
+ghost use Rattle.answers.specs.Querying.{IsSchemaOfFile};
+ghost use Rattle.answers.specs.Making.{lent_text};
+ghost use Rattle.commands.specs.Tasks.{lent_texts};
 
 use crate::explaining::{filter_text_reason, no_text_reason};
 use crate::filter_file::{filter_file, with_filter};
@@ -27,12 +28,12 @@ use crate::later_reason::Refused;
 use crate::looking::{Checking, print_check, print_rows_fit, print_survey};
 use crate::opening::Brought;
 use crate::part_reason::is_of_bytes;
-use crate::querying::print_schema_of;
 use crate::remarks::{print_doubled_note, print_schema_fits, print_schema_notes};
 use crate::tally::Tally;
 use crate::tasks::{bytes_at, found};
 use crate::texts::text_of;
 use crate::watched::Watched;
+use answers::print_schema_of;
 use bits::{R, Refusal};
 use dataset_words::{Call, Change, Datasets, FileSink, Look, Question, Task};
 use disk::Disk;
@@ -50,7 +51,7 @@ pub struct Folders<P: Places + Drop, S: Write + Clone + Drop> {
     pub places: P,
     /// Standard error, once more: where it is a terminal, a disk shows on it what it reads and writes.
     pub screen: S,
-    /// How many bytes the groups of one of several files take at most ([`PART_BYTES`](crate::PART_BYTES)).
+    /// How many bytes the groups of one of several files take at most ([`PART_BYTES`](answers::PART_BYTES)).
     pub part_bytes: usize,
 }
 

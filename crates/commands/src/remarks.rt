@@ -7,9 +7,9 @@ ghost use Rattle.jsonrows.specs.SchemaJson.{IsSchemaText};
 ghost use Rattle.commands.specs.Looking.{MayBeNote};
 
 use crate::explaining::schema_reason;
-use crate::printing::write_text;
 use crate::tasks::found;
 use crate::texts::text_of;
+use answers::write_text;
 use bits::{R, Refusal};
 use jsonrows::schema_from;
 use places::Reason;

@@ -5,7 +5,7 @@ ghost use Rattle.std.specs.Str.Lines.{lines};
 ghost use Rattle.bits.specs.Refusals.{RefusedOnly};
 ghost use Rattle.schema.specs.Views.{row_view, rows_view};
 ghost use Rattle.rowtext.specs.Reader.{schema_of};
-ghost use Rattle.commands.specs.Lines.{IsRowText, IsRefusedLine, AreRowTexts, AreRefusedRows};
+ghost use Rattle.commands.specs.RowLines.{IsRowText, IsRefusedLine, AreRowTexts, AreRefusedRows};
 
 use bits::{R, Refusal};
 use jsonrows::Reader;

@@ -10,9 +10,9 @@ ghost use Rattle.commands.specs.Tasks.{StopsInBytes, RunsBytesToRefusal};
 ghost use Rattle.commands.specs.Stopping.{is_done, EndAtRefusal, StopsAt, MakesToRefusal, RunsToRefusal};
 
 use crate::explaining::script_reason;
-use crate::running::{calls_of, print_answers};
 use crate::texts::text_of;
 use crate::writers::writer_refusal;
+use answers::{calls_of, print_answers};
 use bits::{R, Refusal};
 use disk::Disk;
 use places::Reason;
@@ -34,7 +34,7 @@ pub struct Stop {
 }
 
 /// Makes the calls of a text, one of each line, up to and with the first that is refused, and prints the answer of each, a
-/// line of JSON. Returns where it stopped, if that is not the end. `texts` is as for [`run_script`](crate::run_script).
+/// line of JSON. Returns where it stopped, if that is not the end. `texts` is as for [`run_script`](answers::run_script).
 ///
 /// Refused as `ScriptReader` refuses the first line that is no call, and then no call was made; Memory, and then none was
 /// made either, or some of the answers are not printed; and Device where the output cannot be written. `has_run` becomes true

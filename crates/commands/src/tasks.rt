@@ -2,22 +2,20 @@
 
 ghost use Rattle.std.specs.Prelude.{◌≡◌, false, slice_index_or, []};
 ghost use Rattle.commands.specs.Importing.{files_view};
-ghost use Rattle.commands.specs.Unless.{AsksImport};
-ghost use Rattle.commands.specs.Tasks.{lent_text, lent_texts, columns_named, PrintsQuery, PrintsAnswer, RunsBytes};
+ghost use Rattle.answers.specs.Unless.{AsksImport};
+ghost use Rattle.answers.specs.Making.{lent_text};
+ghost use Rattle.commands.specs.Tasks.{lent_texts, columns_named, PrintsQuery, PrintsAnswer, RunsBytes};
 ghost use Rattle.commands.specs.Tasks.{AddsColumn, ImportsSeveral, ImportsAsked, MakesAsked, MakesChange, MakesInStyle};
 
-use crate::changing::{add_column, remove_rows, rewrite_groups, rewrite_small};
 use crate::explaining::{change_reason, question_reason, script_reason};
-use crate::first_rows::print_first_rows;
-use crate::group_columns::print_groups_and_columns;
 use crate::importing::{import_files, import_files_unless};
-use crate::kept_style::keep_style;
-use crate::querying::{print_count, print_groups, print_rows, print_schema};
-use crate::renewing::rewrite_all;
-use crate::running::run_script;
 use crate::texts::{columns_named, owned, text_of};
-use crate::unless::import_unless;
 use crate::writers::writer_refusal;
+use answers::{
+    add_column, import_unless, keep_style, print_count, print_first_rows, print_groups,
+    print_groups_and_columns, print_rows, print_schema, remove_rows, rewrite_all, rewrite_groups,
+    rewrite_small, run_script,
+};
 use bits::R;
 use dataset_words::{Change, Question};
 use disk::Disk;
@@ -108,7 +106,7 @@ fn print_query<D: Disk, W: Write, E: Write>(
 }
 
 /// Changes a store, with the bytes of the files that the change names. Of an append it does nothing: its rows come in by
-/// [`append_rows`](crate::append_rows). With `texts`, dates, times, timestamps and decimals are also read from their texts in filters. Where it is
+/// [`append_rows`](answers::append_rows). With `texts`, dates, times, timestamps and decimals are also read from their texts in filters. Where it is
 /// refused, `why` may get the reason, and `refused` the place of the file that is refused among several.
 pub fn make_change<D: Disk>(
     alloc: Global,

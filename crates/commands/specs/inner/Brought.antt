@@ -9,7 +9,7 @@ use Rattle.table_state.specs.declared.standing.Core.{Core}
 use Rattle.table_commits.specs.Gathering.{AreGatheredFor}
 use Rattle.dataset_words.specs.declared.call.Call.{Call}
 use Rattle.commands.specs.Importing.{files_view}
-use Rattle.commands.specs.Tasks.{lent_text}
+use Rattle.answers.specs.Making.{lent_text}
 use Rattle.commands.specs.Calls.{ChangesStore, ChangesByRows}
 use Rattle.commands.specs.declared.watched.Watched.{Watched}
 use Rattle.commands.specs.declared.opening.Brought.{Brought}

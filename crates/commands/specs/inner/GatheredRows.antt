@@ -11,7 +11,7 @@ use Rattle.rowtext.specs.Reader.{schema_of as fields_of}
 use Rattle.gather.specs.declared.gathered.Gathered.{Gathered}
 use Rattle.gather.specs.GatheredRows.{holds, schema_of}
 use Rattle.table_commits.specs.Gathering.{AreGatheredFor}
-use Rattle.commands.specs.Lines.{IsRowText, AreRowTexts}
+use Rattle.commands.specs.RowLines.{IsRowText, AreRowTexts}
 use Rattle.places.specs.Blocks.{AreKnown}
 use Rattle.commands.specs.FileLines.{AreWholeLines, AreRefusedIn, AreRefusedOf}
 use Rattle.commands.specs.declared.gathering.LineGatherer.{LineGatherer}

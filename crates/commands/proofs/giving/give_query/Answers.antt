@@ -2,7 +2,8 @@ use Rattle.std.proofs.Common.{◌≡◌, Err, refl, sym, subst}
 use Rattle.vault.proofs.Chained.{refused}
 use Rattle.bits.specs.declared.refusal.Refusal.{Refusal}
 use Rattle.table.specs.Cursors.{Columns}
-use Rattle.commands.specs.Tasks.{lent_text, lent_texts, columns_named, GivesQuery}
+use Rattle.answers.specs.Making.{lent_text}
+use Rattle.commands.specs.Tasks.{lent_texts, columns_named, GivesQuery}
 use Rattle.commands.proofs.TasksMade.{out_of_memory, named_so}
 use Rattle.commands.proofs.giving.give_query.Goals as goal
 

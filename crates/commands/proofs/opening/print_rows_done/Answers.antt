@@ -1,4 +1,4 @@
-use Rattle.commands.proofs.OkThen.{ok_always}
+use Rattle.answers.proofs.OkThen.{ok_always}
 use Rattle.commands.proofs.TasksMade.{appends_kept}
 use Rattle.commands.proofs.opening.print_rows_done.Goals as goal
 

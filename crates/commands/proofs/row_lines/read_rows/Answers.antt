@@ -6,7 +6,7 @@ use Rattle.bits.specs.Refusals.{HasCause}
 use Rattle.bits.proofs.Passing.{passes}
 use Rattle.schema.specs.Shape.{Fields}
 use Rattle.schema.specs.Views.{row_view, rows_view}
-use Rattle.commands.specs.Lines.{HasFirstFault, IsRefusedLine, IsRowText}
+use Rattle.commands.specs.RowLines.{HasFirstFault, IsRefusedLine, IsRowText}
 use Rattle.commands.proofs.Told.{told_one_more, told_all, refused_first}
 use Rattle.commands.proofs.row_lines.read_rows.Goals as goal
 

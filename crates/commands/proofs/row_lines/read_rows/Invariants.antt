@@ -1,7 +1,7 @@
 use Rattle.std.proofs.Common.{◌≡◌, false, map}
 use Rattle.schema.specs.Views.{rows_view}
 use Rattle.rowtext.specs.Reader.{schema_of}
-use Rattle.commands.specs.Lines.{AreRowTexts}
+use Rattle.commands.specs.RowLines.{AreRowTexts}
 use Rattle.commands.proofs.row_lines.read_rows.Given as goal
 
 -- the lines so far are the rows so far; where no progress is shown, none is written

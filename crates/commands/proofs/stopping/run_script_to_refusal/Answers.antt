@@ -8,9 +8,9 @@ use Rattle.table.specs.declared.answer.Answer.{Answer as CodeAnswer}
 use Rattle.table.specs.declared.call.Call.{Call as CodeCall}
 use Rattle.table.specs.Views.{call_view, answer_view}
 use Rattle.jsonrows.specs.Answers.{answer_json_as}
-use Rattle.commands.specs.Lines.{AreRefusedCalls, AreCallTexts}
+use Rattle.answers.specs.Lines.{AreRefusedCalls, AreCallTexts}
 use Rattle.commands.specs.Stopping.{MakesToRefusalFrom, RunsToRefusalFrom, ran_to, not_ran, StopsAt}
-use Rattle.commands.proofs.Answered.{ArePrinted}
+use Rattle.answers.proofs.Answered.{ArePrinted}
 use Rattle.commands.proofs.Stopped.{counted_calls}
 use Rattle.commands.proofs.stopping.run_script_to_refusal.Goals as goal
 

@@ -1,6 +1,6 @@
 use Rattle.std.proofs.Common.{ℕ, List, subst}
 use Rattle.jsonrows.specs.SchemaJson.{IsRefusedSchema}
-use Rattle.commands.specs.Making.{Makes, AsksColumn}
+use Rattle.answers.specs.Making.{Makes, AsksColumn}
 use Rattle.commands.proofs.tasks.add_column_of.Goals as goal
 
 pub returns : goal.returns

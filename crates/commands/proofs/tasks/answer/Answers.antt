@@ -1,7 +1,8 @@
 use Rattle.std.proofs.Common.{ℕ, List, sym, subst}
 use Rattle.std.specs.Borrow.{Bor}
 use Rattle.dataset_words.specs.declared.call.Question.{Question}
-use Rattle.commands.specs.Tasks.{lent_text, lent_texts, columns_named, PrintsQuery, PrintsAnswer}
+use Rattle.answers.specs.Making.{lent_text}
+use Rattle.commands.specs.Tasks.{lent_texts, columns_named, PrintsQuery, PrintsAnswer}
 use Rattle.commands.proofs.tasks.answer.Goals as goal
 
 pub returns-in-Query-clause-prints : goal.returns-in-Query-clause-prints

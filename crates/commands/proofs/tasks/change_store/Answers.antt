@@ -4,7 +4,7 @@ use Rattle.table.specs.Calls.{remove_groups, done}
 use Rattle.table.specs.Views.{answered}
 use Rattle.table_state.specs.Promises.{Acts}
 use Rattle.commands.specs.Importing.{files_view}
-use Rattle.commands.specs.Making.{Rewrites}
+use Rattle.answers.specs.Making.{Rewrites}
 use Rattle.commands.specs.Tasks.{AddsColumn, MakesChange}
 use Rattle.commands.proofs.TasksMade.{first_at}
 use Rattle.commands.proofs.tasks.change_store.Goals as goal

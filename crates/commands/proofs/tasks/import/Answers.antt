@@ -1,7 +1,8 @@
 use Rattle.std.proofs.Common.{◌∙◌, ℕ, List, subst, arith}
 use Rattle.commands.specs.Importing.{files_view}
-use Rattle.commands.specs.Unless.{AsksImport}
-use Rattle.commands.specs.Tasks.{lent_text, MakesAsked}
+use Rattle.answers.specs.Unless.{AsksImport}
+use Rattle.answers.specs.Making.{lent_text}
+use Rattle.commands.specs.Tasks.{MakesAsked}
 use Rattle.commands.proofs.TasksMade.{first_at, viewed, one_imported, several_imported}
 use Rattle.commands.proofs.tasks.import.Goals as goal
 

@@ -1,9 +1,10 @@
 use Rattle.std.proofs.Common.{ℕ, List, Option, refl, sym, subst}
 use Rattle.std.specs.Borrow.{Bor}
 use Rattle.table.specs.Calls.{import}
-use Rattle.commands.specs.Making.{made}
-use Rattle.commands.specs.Unless.{AsksImport}
-use Rattle.commands.specs.Tasks.{lent_text, MakesAsked}
+use Rattle.answers.specs.Making.{made}
+use Rattle.answers.specs.Unless.{AsksImport}
+use Rattle.answers.specs.Making.{lent_text}
+use Rattle.commands.specs.Tasks.{MakesAsked}
 use Rattle.commands.proofs.tasks.import_one.Goals as goal
 
 pub returns-in-None : goal.returns-in-None

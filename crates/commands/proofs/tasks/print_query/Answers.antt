@@ -2,7 +2,8 @@ use Rattle.std.proofs.Common.{◌≡◌, ℕ, Option, Some, None, Err, refl, sym
 use Rattle.vault.proofs.Chained.{refused}
 use Rattle.bits.specs.declared.refusal.Refusal.{Refusal}
 use Rattle.table.specs.Cursors.{Columns}
-use Rattle.commands.specs.Tasks.{lent_text, lent_texts, columns_named, PrintsQuery}
+use Rattle.answers.specs.Making.{lent_text}
+use Rattle.commands.specs.Tasks.{lent_texts, columns_named, PrintsQuery}
 use Rattle.commands.proofs.TasksMade.{out_of_memory, named_so}
 use Rattle.commands.proofs.tasks.print_query.Goals as goal
 

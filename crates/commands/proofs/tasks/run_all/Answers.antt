@@ -1,6 +1,6 @@
 use Rattle.std.proofs.Common.{Err}
 use Rattle.vault.proofs.Chained.{refused}
-use Rattle.commands.specs.Making.{RunsScript}
+use Rattle.answers.specs.Making.{RunsScript}
 use Rattle.commands.proofs.TasksMade.{run_of, run_on}
 use Rattle.commands.proofs.tasks.run_all.Goals as goal
 

@@ -1,5 +1,5 @@
 use Rattle.std.proofs.Common.{refl}
-use Rattle.commands.specs.Appending.{not_opened}
+use Rattle.commands.specs.FoundTable.{not_opened}
 use Rattle.commands.proofs.OpenedSo.{read_so}
 use Rattle.commands.proofs.TablesFound.{found_of}
 use Rattle.commands.proofs.making.Making.find_table_on.Goals as goal

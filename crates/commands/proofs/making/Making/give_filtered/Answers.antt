@@ -1,5 +1,5 @@
 use Rattle.std.proofs.Common.{◌∙◌, sym, ap}
-use Rattle.commands.specs.Tasks.{lent_text}
+use Rattle.answers.specs.Making.{lent_text}
 use Rattle.commands.specs.Calls.{as_asked}
 use Rattle.commands.proofs.making.Making.give_filtered.Goals as goal
 

@@ -1,4 +1,4 @@
-use Rattle.commands.proofs.OkThen.{ok_always}
+use Rattle.answers.proofs.OkThen.{ok_always}
 use Rattle.commands.proofs.making.Making.look_at_files.Goals as goal
 
 pub returns-clause-held : goal.returns-clause-held

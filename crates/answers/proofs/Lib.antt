@@ -1,0 +1,18 @@
+mod Called
+pub mod Answered
+pub mod OneByOne
+mod Wanted
+mod Selected
+mod FirstOf
+mod Batched
+pub mod OkThen
+mod GatheredLines
+mod Counted
+pub mod UnlessThere
+mod Renewed
+mod PartsGiven
+mod FilesOfQuery
+mod ToldColumns
+mod Restyled
+pub mod FirstKept
+mod RowsAppended

@@ -1,0 +1,11 @@
+pub mod Lines
+pub mod Making
+pub mod Querying
+pub mod GroupColumns
+pub mod First
+pub mod QueryFile
+pub mod Renewing
+pub mod Unless
+pub mod Appending
+pub mod Kept
+pub mod inner

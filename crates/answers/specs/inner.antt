@@ -1,0 +1,4 @@
+pub mod Batches
+pub mod Fetched
+pub mod Gathering
+pub mod Parts

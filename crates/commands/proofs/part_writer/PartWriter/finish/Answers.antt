@@ -1,5 +1,0 @@
-use Rattle.commands.proofs.PartsGiven.{ends_with}
-use Rattle.commands.proofs.part_writer.PartWriter.finish.Goals as goal
-
-pub returns : goal.returns
-returns c = record { ends = ends_with c.args.self c.finish.result c.finish.ensures.means c.finish.ensures.laid_out c.finish.ensures.in_range }
