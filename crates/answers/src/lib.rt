@@ -16,6 +16,7 @@ mod querying;
 mod renewing;
 mod row_limit;
 mod running;
+mod texts;
 mod unless;
 mod writing_query;
 
@@ -29,5 +30,6 @@ pub use printing::{print_done, write_text};
 pub use querying::{print_count, print_groups, print_rows, print_schema, print_schema_of};
 pub use renewing::rewrite_all;
 pub use running::{calls_of, print_answers, run_script};
+pub use texts::{as_text, text_of};
 pub use unless::{append_unless, count_rows, import_unless};
 pub use writing_query::{PART_BYTES, query_files};

@@ -6,13 +6,13 @@ ghost use Rattle.commands.specs.Creating.{OnlyLooks, CreatesOn, MakesTable, InNe
 ghost use Rattle.commands.specs.Calls.{state_within, disk_within};
 ghost use Rattle.commands.specs.Tasks.{lent_texts};
 
-use crate::explaining::{schema_reason, table_reason};
 use crate::making::Making;
 use crate::remarks::schema_in;
 use crate::tasks::found;
 use crate::texts::owned;
 use answers::without_root;
 use bits::{R, Refusal};
+use call_reasons::{schema_reason, table_reason};
 use disk::Disk;
 use manifest::Manifest;
 use partition::key_columns;

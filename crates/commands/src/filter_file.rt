@@ -5,7 +5,7 @@ ghost use Rattle.bits.specs.Refusals.{HasCause};
 ghost use Rattle.answers.specs.Making.{lent_text};
 ghost use Rattle.commands.specs.Calls.{filter_by_words, filter_path, after_at, HasFilter, IsFiltered};
 
-use crate::texts::text_of;
+use answers::text_of;
 use bits::{R, Refusal};
 use dataset_words::{Call, Change, Question, Task};
 use std::alloc::Global;

@@ -14,13 +14,12 @@ ghost use Rattle.commands.specs.FileLines.{AreRefusedOf};
 ghost use Rattle.commands.specs.inner.LineCuts.{IsLineLength};
 ghost use Rattle.commands.specs.inner.GatheredRows.{AddsLine, HoldsLines, GathersLines, GathersBytes, GathersBlock, HasRead, HasReadAll};
 
-use crate::key_reason::gathered_reason;
 use crate::line_cuts::{forget, line_at, line_length, whole_length};
-use crate::line_notes::{LineNotes, RowNotes};
 use crate::tasks::found;
-use crate::texts::as_text;
+use answers::as_text;
 use assemble::RowSink;
 use bits::{R, Refusal};
+use call_reasons::{LineNotes, RowNotes, gathered_reason};
 use footer::WriteOptions;
 use gather::Gathered;
 use jsonrows::Reader;

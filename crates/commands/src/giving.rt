@@ -8,13 +8,13 @@ ghost use Rattle.commands.specs.Calls.{Gives, GivesAsked, Filtered, filter_path,
 ghost use Rattle.answers.specs.Making.{lent_text};
 ghost use Rattle.commands.specs.Tasks.{lent_texts, columns_named, GivesQuery, GivesAnswer};
 
-use crate::explaining::{filter_text_reason, question_reason};
 use crate::filter_file::{filter_file, with_filter};
 use crate::making::{Making, root_reason};
 use crate::tasks::found;
 use crate::texts::{columns_named, owned};
 use answers::query_files;
 use bits::{R, Refusal};
+use call_reasons::{filter_text_reason, question_reason};
 use dataset_words::{FileSink, Question, Task};
 use disk::Disk;
 use footer::WriteOptions;

@@ -1,7 +1,7 @@
 //! Why a call on a folder is refused, found when it is over: by what the disk and the system refused last.
 
-use crate::part_reason::is_of_bytes;
 use bits::{R, Refusal};
+use call_reasons::is_of_bytes;
 use dataset_words::{Call, Change, Look, Question, Task};
 use places::{Node, Notes, Places, Reason};
 use reasons::{Cause, options_fault, output_cause, system_fault};

@@ -6,22 +6,16 @@
 #![tactic(auto)]
 
 mod appending;
-mod column_text;
 mod creating;
-mod explaining;
 mod filter_file;
 mod gathering;
 mod giving;
-mod import_reason;
 mod importing;
-mod key_reason;
 mod later_reason;
 mod line_cuts;
-mod line_notes;
 mod looking;
 mod making;
 mod opening;
-mod part_reason;
 mod refused_file;
 mod remarks;
 mod row_lines;

@@ -9,11 +9,11 @@ ghost use Rattle.upkeep.specs.Intact.{AreHeld};
 ghost use Rattle.upkeep.specs.Reading.{Looks};
 ghost use Rattle.commands.specs.RowLines.{AreRowTexts};
 
-use crate::key_reason::rows_reason;
 use crate::row_lines::rows_of;
 use crate::survey_json::json_of_survey;
 use answers::write_text;
 use bits::{R, Refusal};
+use call_reasons::rows_reason;
 use disk::Disk;
 use manifest::Manifest;
 use places::Reason;

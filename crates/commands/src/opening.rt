@@ -19,7 +19,6 @@ ghost use Rattle.commands.specs.Calls.{Answers, ChangesAsAsked, ChangesByRows, C
 ghost use Rattle.commands.specs.Calls.{state_within, disk_within};
 ghost use Rattle.table_state.specs.declared.standing.Core.{Core};
 
-use crate::explaining::append_reason;
 use crate::gathering::LineGatherer;
 use crate::making::{Making, root_reason};
 use crate::stopping::run_to_refusal;
@@ -28,6 +27,7 @@ use crate::watched::Watched;
 use crate::writers::writer_refusal;
 use answers::{append_rows, print_done};
 use bits::{R, Refusal};
+use call_reasons::append_reason;
 use dataset_words::{Change, Question, Task};
 use disk::Disk;
 use footer::WriteOptions;

@@ -6,11 +6,10 @@ ghost use Rattle.schema.specs.Shape.{Fields};
 ghost use Rattle.jsonrows.specs.SchemaJson.{IsSchemaText};
 ghost use Rattle.commands.specs.Looking.{MayBeNote};
 
-use crate::explaining::schema_reason;
 use crate::tasks::found;
-use crate::texts::text_of;
-use answers::write_text;
+use answers::{text_of, write_text};
 use bits::{R, Refusal};
+use call_reasons::schema_reason;
 use jsonrows::schema_from;
 use places::Reason;
 use reasons::{doubled_note, schema_notes};

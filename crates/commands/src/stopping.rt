@@ -9,11 +9,10 @@ ghost use Rattle.bits.specs.declared.refusal.Refusal.TheVariants.{Memory};
 ghost use Rattle.commands.specs.Tasks.{StopsInBytes, RunsBytesToRefusal};
 ghost use Rattle.commands.specs.Stopping.{is_done, EndAtRefusal, StopsAt, MakesToRefusal, RunsToRefusal};
 
-use crate::explaining::script_reason;
-use crate::texts::text_of;
 use crate::writers::writer_refusal;
-use answers::{calls_of, print_answers};
+use answers::{calls_of, print_answers, text_of};
 use bits::{R, Refusal};
+use call_reasons::script_reason;
 use disk::Disk;
 use places::Reason;
 use std::alloc::Global;

@@ -7,16 +7,16 @@ ghost use Rattle.answers.specs.Making.{lent_text};
 ghost use Rattle.commands.specs.Tasks.{lent_texts, columns_named, PrintsQuery, PrintsAnswer, RunsBytes};
 ghost use Rattle.commands.specs.Tasks.{AddsColumn, ImportsSeveral, ImportsAsked, MakesAsked, MakesChange, MakesInStyle};
 
-use crate::explaining::{change_reason, question_reason, script_reason};
 use crate::importing::{import_files, import_files_unless};
-use crate::texts::{columns_named, owned, text_of};
+use crate::texts::{columns_named, owned};
 use crate::writers::writer_refusal;
 use answers::{
     add_column, import_unless, keep_style, print_count, print_first_rows, print_groups,
     print_groups_and_columns, print_rows, print_schema, remove_rows, rewrite_all, rewrite_groups,
-    rewrite_small, run_script,
+    rewrite_small, run_script, text_of,
 };
 use bits::R;
+use call_reasons::{change_reason, question_reason, script_reason};
 use dataset_words::{Change, Question};
 use disk::Disk;
 use places::Reason;

@@ -1,34 +1,12 @@
-//! Bytes and words as texts.
+//! Words as texts.
 
-ghost use Rattle.std.specs.Prelude.{◌≡◌, map, IfOk, IfErr, IsUtf8, MatchOption, string_bytes};
-ghost use Rattle.bits.specs.declared.refusal.Refusal.TheVariants.{Script, Memory};
+ghost use Rattle.std.specs.Prelude.{◌≡◌, map, IfOk, IfErr, string_bytes};
+ghost use Rattle.bits.specs.declared.refusal.Refusal.TheVariants.{Memory};
 ghost use Rattle.table.specs.Views.{names_view};
 ghost use Rattle.commands.specs.Tasks.{lent_texts, columns_named};
 
-use bits::{R, Refusal};
-use simdutf8::basic::from_utf8;
+use bits::R;
 use std::alloc::Global;
-
-/// The text that bytes are; none where they are not UTF-8.
-pub fn as_text(bytes: &[u8]) -> Option<&str>
-    ensures text { MatchOption result (IsUtf8 bytes.now → ⊥) (λ text. (text.now ≡ bytes.now) × IsUtf8 bytes.now) }
-{
-    match from_utf8(bytes) {
-        Ok(text) => Some(text),
-        Err(_) => None,
-    }
-}
-
-/// The text that bytes are. Refused Script where they are not UTF-8.
-pub fn text_of(bytes: &[u8]) -> R<&str>
-    ensures text { IfOk result (λ text. (text.now ≡ bytes.now) × IsUtf8 bytes.now) }
-    ensures no_text { IfErr result (λ e. (e ≡ Script) × (IsUtf8 bytes.now → ⊥)) }
-{
-    match from_utf8(bytes) {
-        Ok(text) => Ok(text),
-        Err(_) => Err(Refusal::Script),
-    }
-}
 
 /// The words, each as a text of its own. It fails only when out of memory.
 pub fn owned(alloc: Global, words: &[&str]) -> R<Vec<String>>

@@ -4,8 +4,7 @@ use crate::import_reason::import_reason;
 use crate::key_reason::keys_reason;
 use crate::line_notes::RowNotes;
 use crate::part_reason::is_of_bytes;
-use crate::texts::text_of;
-use answers::same_schema;
+use answers::{same_schema, text_of};
 use bits::{R, Refusal};
 use dataset_words::{Change, Question};
 use disk::Disk;
@@ -186,7 +185,7 @@ fn shown_by(change: &Change<'_>) -> &'static str {
 }
 
 /// Why rows that were gathered are not appended, unless some row satisfies a filter, where there is more to say than the refusal.
-pub(crate) fn append_reason<D: Disk>(
+pub fn append_reason<D: Disk>(
     alloc: Global,
     store: &Store<D>,
     rows: RowNotes<'_>,

@@ -14,18 +14,18 @@ const LONG_LINE: &str = "a line of more than 1073741824 bytes";
 
 /// What is kept of rows that were gathered.
 #[derive(Drop)]
-pub(crate) struct RowNotes<'a> {
+pub struct RowNotes<'a> {
     /// The schema of the table that they were read for.
-    pub(crate) schema: &'a Schema,
-    pub(crate) lines: LineNotes,
+    pub schema: &'a Schema,
+    pub lines: LineNotes,
     /// Which row has a key that can name no folder, if one has.
-    pub(crate) key: Option<Reason>,
+    pub key: Option<Reason>,
 }
 
 /// What is kept of lines: their number, and what is wrong in the one that is refused. Where there is no memory to keep something,
 /// that is not kept.
 #[derive(Drop)]
-pub(crate) struct LineNotes {
+pub struct LineNotes {
     alloc: Global,
     /// How many lines were read.
     lines: u64,
@@ -39,7 +39,7 @@ pub(crate) struct LineNotes {
 
 impl LineNotes {
     /// Notes of no lines.
-    pub(crate) fn new(alloc: Global) -> LineNotes {
+    pub fn new(alloc: Global) -> LineNotes {
         LineNotes {
             alloc,
             lines: 0,
@@ -51,14 +51,14 @@ impl LineNotes {
 
     /// Counts a line.
     #[inline(always)]
-    pub(crate) fn count(&mut self, line: &str) {
+    pub fn count(&mut self, line: &str) {
         self.lines = self.lines.saturating_add(1);
         self.bytes = self.bytes.saturating_add(line.len());
     }
 
     /// Keeps what there is to say of the last line, once it was read: why it is no row, or which value has too many bytes.
     #[inline(always)]
-    pub(crate) fn keep(&mut self, schema: &Schema, line: &str, texts: bool, read: &R<()>) {
+    pub fn keep(&mut self, schema: &Schema, line: &str, texts: bool, read: &R<()>) {
         match read {
             Ok(()) if line.len() <= SHORT_LINE => {}
             Ok(()) => self.look_at(schema, line, texts),
@@ -99,12 +99,12 @@ impl LineNotes {
     }
 
     /// Keeps that the next line is no text.
-    pub(crate) fn refuse_bytes(&mut self) {
+    pub fn refuse_bytes(&mut self) {
         self.refuse_next(NOT_UTF8);
     }
 
     /// Keeps that the next line is too long.
-    pub(crate) fn refuse_length(&mut self) {
+    pub fn refuse_length(&mut self) {
         self.refuse_next(LONG_LINE);
     }
 
@@ -114,17 +114,17 @@ impl LineNotes {
     }
 
     /// How many bytes the lines have that were read.
-    pub(crate) fn bytes(&self) -> usize {
+    pub fn bytes(&self) -> usize {
         self.bytes
     }
 
     /// What is wrong in the line that was refused. The file's name is put before it later.
-    pub(crate) fn fault(self) -> Option<Reason> {
+    pub fn fault(self) -> Option<Reason> {
         self.fault.map(|fault| Reason::Text(fault))
     }
 
     /// Which value has too many bytes, if one has. The file's name is put before it later.
-    pub(crate) fn large(self) -> Option<Reason> {
+    pub fn large(self) -> Option<Reason> {
         self.large.map(|fault| Reason::Large(fault))
     }
 }
