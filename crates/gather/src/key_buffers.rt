@@ -129,6 +129,8 @@ impl<'a> KeyBuffers<'a> {
         let at = self.waiting.len();
         let copies = copied_parts(self.alloc, parts.as_slice())?;
         let rows = RowBuffer::new(self.alloc, self.stored)?;
+        // With room for both, neither is refused after the other was made.
+        self.waiting.reserve(1)?;
         self.places.insert(copies)?;
         self.waiting.push(KeyBuffer { key, rows })?;
         Ok(Some(at))

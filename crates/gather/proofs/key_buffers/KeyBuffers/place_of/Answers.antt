@@ -5,6 +5,7 @@ use Rattle.schema.specs.Keys.{key_columns_view}
 use Rattle.partition.specs.Folders.{CanPartition}
 use Rattle.partition.specs.Order.{is_same_key}
 use Rattle.partition.proofs.Places.{found_at, absent_from}
+use Rattle.gather.specs.declared.key_buffer.KeyBuffer.{KeyBuffer}
 use Rattle.gather.specs.Parts.{parts_view}
 use Rattle.gather.proofs.SameParts.{same_parts, by_kinds}
 use Rattle.gather.proofs.Adding.{Key, not_among, keys_added, placed_new}
@@ -29,5 +30,6 @@ returns-clause-placed c = λ rows split.
     let same : parts_view c.in_ok-copies.copies.items ≡ k = c.in_ok-copies.ensures.same ∙ ap parts_view c.as_slice-2.ensures.value in
     let absent = not_among (λ x. parts_view x.items) k _ (λ x. same_parts _ (by_kinds _ (λ a b. refl) (λ a b. refl) (λ a b. refl) (λ a b. refl) (λ a b. refl) (λ a b. refl) (λ a b. refl) (λ a b. refl) (λ a b. refl)) c.in_ok-copies.copies.items x.items ∙ ap (λ (l : Key). is_same_key l (parts_view x.items)) same) old.places.keys stored in
     let added = ap (map (λ x. parts_view x.items)) c.in_ok-insert.ensures.keys ∙ keys_added (λ x. parts_view x.items) _ old.places.keys c.in_ok-copies.copies absent ∙ (λ i. split.places i ++ same i ∷ []) in
+    let one : KeyBuffer = record { key = c.in_ok-key.key; rows = c.in_ok-rows.rows } in
     let place : c.len-at.result ≡ length old.waiting.items = omega (arith, c.len-at.ensures) in
-    placed_new (key_columns_view c.args.columns.now) old _ rows k _ c.len-at.result place refl refl refl can other named (record { schema = c.in_ok-rows.ensures.of; held = c.in_ok-rows.ensures.begins }) c.in_ok-push.ensures.items added split
+    placed_new (key_columns_view c.args.columns.now) old _ rows k _ c.len-at.result place refl refl refl can other named (record { schema = c.in_ok-rows.ensures.of; held = c.in_ok-rows.ensures.begins }) (c.in_ok-push.ensures.items ∙ ap (λ (bs : List KeyBuffer). bs ++ one ∷ []) c.reserve.ensures.items) added split
