@@ -84,11 +84,12 @@ module _ (old : DiskState) (versions : Versions) (c : OpenCursor) where
   -- so far: up to a place
   pub record Going (at : ℕ) (now : DiskState) : Type 0 where
     pub read : IsReading old now
-    pub goes : (version : List FileGroup) → AreKeys root.keys root.schema → open_at c.number versions.cursors ≡ Some version → GoesTo c version at old now
+    pub goes : (version : List FileGroup) → open_at c.number versions.cursors ≡ Some version → GoesTo c version at old now
+    pub unheld : open_at c.number versions.cursors ≡ None → now.reads ≡ old.reads
     pub none : old.honest → (keys : List KeyColumn) (count : ℕ) (d : ℕ × Cursor) (z : ShowsCursor old versions.cursors keys count c d) → batches_from c z.groups c.passed ≡ batches_from c z.groups at
 
   pub going_here : Going c.passed old
-  going_here = record { read = reading_here old; goes = λ version k e. goes_nowhere c version old; none = λ h keys count d z. refl }
+  going_here = record { read = reading_here old; goes = λ version e. goes_nowhere c version old; unheld = λ none. refl; none = λ h keys count d z. refl }
 
   -- ---- the next group
 
@@ -108,26 +109,30 @@ module _ (old : DiskState) (versions : Versions) (c : OpenCursor) where
     stays_at : (version : List FileGroup) → GoesTo c version p old mid → new.reads ≡ mid.reads → GoesTo c version p old new
     stays_at version to e = record { count = to.count; most = to.most; no_more = (let a = to.no_more in omega (arith, a, e)); no_less = (let a = to.no_less in omega (arith, a, e)) }
 
-    module _ (reads : (g : FileGroup) → AreKeys root.keys root.schema → there_at p ≡ Some g → ReadsFor tests root.keys root.schema places g mid new) where
-      pub went_on : (there_at p ≡ None → ⊥) → (version : List FileGroup) → AreKeys root.keys root.schema → open_at c.number versions.cursors ≡ Some version → GoesTo c version (suc p) old new
-      went_on missing version k e = by (slice_get version p) refl
+    module _ (reads : (g : FileGroup) → there_at p ≡ Some g → ReadsFor tests root.keys root.schema places g mid new) where
+      pub went_on : (there_at p ≡ None → ⊥) → (version : List FileGroup) → open_at c.number versions.cursors ≡ Some version → GoesTo c version (suc p) old new
+      went_on missing version e = by (slice_get version p) refl
         where
           at_is : there_at p ≡ slice_get version p
           at_is = ap (λ (o : Option (List FileGroup)). group_in o p) e
 
           by : (o : Option FileGroup) → slice_get version p ≡ o → GoesTo c version (suc p) old new
           by None f = absurd (missing (at_is ∙ f))
-          by (Some g) f = goes_on version (so_far.goes version k e) g f (reads g k (at_is ∙ f))
+          by (Some g) f = goes_on version (so_far.goes version e) g f (reads g (at_is ∙ f))
 
-      pub went_or_not : (there_at p ≡ None → new.reads ≡ mid.reads) → (version : List FileGroup) → AreKeys root.keys root.schema → open_at c.number versions.cursors ≡ Some version → (to : ℕ) × GoesTo c version to old new
-      went_or_not missing version k e = by (slice_get version p) refl
+      pub went_or_not : (there_at p ≡ None → new.reads ≡ mid.reads) → (version : List FileGroup) → open_at c.number versions.cursors ≡ Some version → (to : ℕ) × GoesTo c version to old new
+      went_or_not missing version e = by (slice_get version p) refl
         where
           at_is : there_at p ≡ slice_get version p
           at_is = ap (λ (o : Option (List FileGroup)). group_in o p) e
 
           by : (o : Option FileGroup) → slice_get version p ≡ o → (to : ℕ) × GoesTo c version to old new
-          by None f = (p, stays_at version (so_far.goes version k e) (missing (at_is ∙ f)))
-          by (Some g) f = (suc p, goes_on version (so_far.goes version k e) g f (reads g k (at_is ∙ f)))
+          by None f = (p, stays_at version (so_far.goes version e) (missing (at_is ∙ f)))
+          by (Some g) f = (suc p, goes_on version (so_far.goes version e) g f (reads g (at_is ∙ f)))
+
+    -- without a version there is no group, and nothing is read
+    pub unheld_here : (there_at p ≡ None → new.reads ≡ mid.reads) → open_at c.number versions.cursors ≡ None → new.reads ≡ old.reads
+    unheld_here missing none = missing (ap (λ (o : Option (List FileGroup)). group_in o p) none) ∙ so_far.unheld none
 
     -- ---- by what the cursor shows
 
@@ -176,12 +181,16 @@ module _ (old : DiskState) (versions : Versions) (c : OpenCursor) where
 
     -- ---- the loop's exits
 
-    module _ (q : ℕ) (q_is : q ≡ suc p) (read : Option GroupRows) (out : List Row) (reads : (g : FileGroup) → AreKeys root.keys root.schema → there_at p ≡ Some g → ReadsFor tests root.keys root.schema places g mid new) (there : there_at p ≡ None → ⊥)
+    module _ (q : ℕ) (q_is : q ≡ suc p) (read : Option GroupRows) (out : List Row) (reads : (g : FileGroup) → there_at p ≡ Some g → ReadsFor tests root.keys root.schema places g mid new) (there : there_at p ≡ None → ⊥)
         (effect : OnlyReads {T = Option GroupRows} mid new (Ok read))
         (stands : mid.honest → IsOver tests root.schema → AreKeys root.keys root.schema → (g : FileGroup) (rows : List ValueTrees) → there_at p ≡ Some g → Holds mid root.keys root.schema g rows → AreSelected tests places rows out)
         (low : p < length root.groups) where
-      pub goes_past : (version : List FileGroup) → AreKeys root.keys root.schema → open_at c.number versions.cursors ≡ Some version → GoesTo c version q old new
-      goes_past version k e = subst (λ (n : ℕ). GoesTo c version n old new) (sym q_is) (went_on reads there version k e)
+      pub goes_past : (version : List FileGroup) → open_at c.number versions.cursors ≡ Some version → GoesTo c version q old new
+      goes_past version e = subst (λ (n : ℕ). GoesTo c version n old new) (sym q_is) (went_on reads there version e)
+
+      -- the group is there, so that a version is held
+      pub held_one : open_at c.number versions.cursors ≡ None → new.reads ≡ old.reads
+      held_one none = absurd (there (ap (λ (o : Option (List FileGroup)). group_in o p) none))
 
       pub read_on : IsReading old new
       read_on = reading_on old mid new read so_far.read effect
@@ -195,6 +204,7 @@ module _ (old : DiskState) (versions : Versions) (c : OpenCursor) where
       passes_over none = record {
         read = read_on;
         goes = goes_past;
+        unheld = held_one;
         none = λ honest keys count d z. gives honest keys count d z ∙ ap (λ (rs : List Row). batches_with places rs ++ batches_from c z.groups q) none;
       }
 

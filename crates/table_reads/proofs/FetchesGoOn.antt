@@ -3,12 +3,13 @@ use Rattle.std.proofs.Common.{◌≡◌, ℕ, Bool, true, false, not, ◌==◌, 
 use Rattle.std.specs.Prelude.{if◌then◌else◌, Vec}
 use Rattle.std.specs.declared.alloc.Global.{Global}
 use Rattle.std.specs.List.{AllZip}
+use Rattle.std.proofs.lemmas.Bool.{false≢true}
 use Rattle.std.proofs.lemmas.Option.{same_Some as some_is}
 use Rattle.bits.specs.declared.refusal.Refusal.{Refusal}
 use Rattle.bits.specs.declared.refusal.Refusal.TheVariants.{Memory, Device}
 use Rattle.bits.specs.Refusals.{HasCause}
 use Rattle.schema.specs.Cutting.{is_among}
-use Rattle.schema.specs.Keys.{KeyColumn, AreKeys, AreDistinct}
+use Rattle.schema.specs.Keys.{KeyColumn, AreDistinct}
 use Rattle.schema.specs.Shape.{Fields}
 use Rattle.partition.specs.Folders.{part_path_of}
 use Rattle.disk.specs.State.{State as DiskState}
@@ -33,7 +34,7 @@ use Rattle.table_state.specs.Lookups.{cursor_at}
 use Rattle.table_state.specs.Spares.{Spares, Agrees}
 use Rattle.table_state.specs.Stands.{AreStored, AreNumbered, ShowsCursor, ShowsOpen, Stands, numbers_at, cursor_numbers}
 use Rattle.table_commits.specs.Cleaning.{Clears}
-use Rattle.table_reads.specs.Passing.{Comes, batches_with, batches_from, moved, moved_at, GoesTo, Sees, Went, FetchReads}
+use Rattle.table_reads.specs.Passing.{Comes, batches_with, batches_from, moved, moved_at, GoesTo, Went, FetchReads}
 use Rattle.table_reads.proofs.ReadsOfPassedGroups.{goes_nowhere}
 use Rattle.snapshots.specs.State.{open_at as versions_at}
 use Rattle.table_state.specs.Promises.{ActsFrom}
@@ -296,22 +297,61 @@ module _ {D : Type 0} (state : D → DiskState) (store : Core D) (n : ℕ) (c : 
   not_none e = let both : None ≡ Some c = sym e ∙ at in cc
 
   pub reads_over : {T : Type 0} (answer : T) → FetchReads state store store n (Ok answer)
-  reads_over answer = record { same = refl; goes = λ d version o e sees. (d, e, refl, goes_nowhere d version (state store.vault.disk)); none = λ e. refl }
-
-  pub reads_went : {T : Type 0} (vault : Vault D) (cursors : Vec OpenCursor Global) (passed : ℕ) (over : Bool) (answer : T) → cursors.items ≡ moved_at n passed over store.cursors.items
-      → ((version : List FileGroup) → AreKeys (root_of c.table).keys (root_of c.table).schema → versions_at c.number (state_of store.snapshots).cursors ≡ Some version → GoesTo c version passed (state store.vault.disk) (state vault.disk))
-      → FetchReads state store (record store { vault = vault; cursors = cursors }) n (Ok answer)
-  reads_went {T} vault cursors passed over answer items goes = record {
+  reads_over answer = record {
     same = refl;
-    goes = λ d version o e sees. subst (λ (x : OpenCursor). Sees store x version → Went {T = T} state store (record store { vault = vault; cursors = cursors }) n x version (Ok answer)) (found_one d e)
-        (λ see. (moved passed over c, ap (cursor_at n) items ∙ moved_found n passed over store.cursors.items c at, refl, goes version see.keys see.held)) sees;
-    none = λ e. absurd (not_none e);
+    goes = λ d version o e held. (d, e, refl, goes_nowhere d version (state store.vault.disk));
+    unheld = λ d e none. refl;
+    none = λ e. refl;
+    shut = λ e. refl;
   }
 
-  pub reads_stopped : {T : Type 0} (vault : Vault D) (e : Refusal) → ((version : List FileGroup) → AreKeys (root_of c.table).keys (root_of c.table).schema → versions_at c.number (state_of store.snapshots).cursors ≡ Some version → (to : ℕ) × GoesTo c version to (state store.vault.disk) (state vault.disk))
-      → FetchReads {T = T} state store (record store { vault = vault }) n (Err e)
-  reads_stopped {T} vault e goes = record {
+  -- a cursor that is found is this one, also where no version is held for it
+  unheld_too : (now : DiskState) → (versions_at c.number (state_of store.snapshots).cursors ≡ None → now.reads ≡ (state store.vault.disk).reads)
+      → (d : OpenCursor) → cursor_at n store.cursors.items ≡ Some d → versions_at d.number (state_of store.snapshots).cursors ≡ None → now.reads ≡ (state store.vault.disk).reads
+  unheld_too now none d e = subst (λ (x : OpenCursor). versions_at x.number (state_of store.snapshots).cursors ≡ None → now.reads ≡ (state store.vault.disk).reads) (found_one d e) none
+
+  module _ (is_open : store.closed ≡ false) (vault : Vault D) (unheld : versions_at c.number (state_of store.snapshots).cursors ≡ None → (state vault.disk).reads ≡ (state store.vault.disk).reads) where
+    pub reads_went : {T : Type 0} (cursors : Vec OpenCursor Global) (passed : ℕ) (over : Bool) (answer : T) → cursors.items ≡ moved_at n passed over store.cursors.items
+        → ((version : List FileGroup) → versions_at c.number (state_of store.snapshots).cursors ≡ Some version → GoesTo c version passed (state store.vault.disk) (state vault.disk))
+        → FetchReads state store (record store { vault = vault; cursors = cursors }) n (Ok answer)
+    reads_went {T} cursors passed over answer items goes = record {
+      same = refl;
+      goes = λ d version o e held.
+          subst (λ (x : OpenCursor). versions_at x.number (state_of store.snapshots).cursors ≡ Some version → Went {T = T} state store (record store { vault = vault; cursors = cursors }) n x version (Ok answer)) (found_one d e)
+          (λ h. (moved passed over c, ap (cursor_at n) items ∙ moved_found n passed over store.cursors.items c at, refl, goes version h)) held;
+      unheld = unheld_too (state vault.disk) unheld;
+      none = λ e. absurd (not_none e);
+      shut = λ e. absurd (false≢true (sym is_open ∙ e));
+    }
+
+    pub reads_stopped : {T : Type 0} (e : Refusal) → ((version : List FileGroup) → versions_at c.number (state_of store.snapshots).cursors ≡ Some version → (to : ℕ) × GoesTo c version to (state store.vault.disk) (state vault.disk))
+        → FetchReads {T = T} state store (record store { vault = vault }) n (Err e)
+    reads_stopped {T} e goes = record {
+      same = refl;
+      goes = λ d version o g held.
+          subst (λ (x : OpenCursor). versions_at x.number (state_of store.snapshots).cursors ≡ Some version → Went {T = T} state store (record store { vault = vault }) n x version (Err e)) (found_one d g)
+          (λ h. (at, goes version h)) held;
+      unheld = unheld_too (state vault.disk) unheld;
+      none = λ g. absurd (not_none g);
+      shut = λ g. absurd (false≢true (sym is_open ∙ g));
+    }
+
+-- a store that is closed, and a number without a cursor
+module _ {D T : Type 0} (state : D → DiskState) (store : Core D) (n : ℕ) (e : Refusal) where
+  pub reads_shut : store.closed ≡ true → FetchReads {T = T} state store store n (Err e)
+  reads_shut closed = record {
     same = refl;
-    goes = λ d version o g sees. subst (λ (x : OpenCursor). Sees store x version → Went {T = T} state store (record store { vault = vault }) n x version (Err e)) (found_one d g) (λ see. (at, goes version see.keys see.held)) sees;
-    none = λ g. absurd (not_none g);
+    goes = λ d version o found held. absurd (false≢true (sym o ∙ closed));
+    unheld = λ d found none. refl;
+    none = λ found. refl;
+    shut = λ is. refl;
+  }
+
+  pub reads_none : cursor_at n store.cursors.items ≡ None → FetchReads {T = T} state store store n (Err e)
+  reads_none none = record {
+    same = refl;
+    goes = λ d version o found held. absurd (let both : None ≡ Some d = sym none ∙ found in cc);
+    unheld = λ d found is. refl;
+    none = λ found. refl;
+    shut = λ is. refl;
   }

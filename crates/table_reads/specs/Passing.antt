@@ -1,8 +1,9 @@
 -- Which groups a cursor passes, what it comes to, and how often it reads for them.
-use Rattle.std.specs.Prelude.{◌≡◌, ◌≢◌, ◌≤◌, ◌+◌, ◌-◌, ℕ, Bool, if◌then◌else◌, ◌==◌, List, [], ◌∷◌, ◌++◌, drop, length, Option, Some, None, false, Result, Ok, Err}
+use Rattle.std.specs.Prelude.{◌≡◌, ◌≢◌, ◌≤◌, ◌+◌, ◌-◌, ℕ, Bool, if◌then◌else◌, ◌==◌, List, [], ◌∷◌, ◌++◌, drop, length}
+use Rattle.std.specs.Prelude.{Option, Some, None, true, false, Result, Ok, Err}
 use Rattle.bits.specs.declared.refusal.Refusal.{Refusal}
 use Rattle.schema.specs.Shape.{Fields}
-use Rattle.schema.specs.Keys.{KeyColumn, AreKeys}
+use Rattle.schema.specs.Keys.{KeyColumn}
 use Rattle.disk.specs.State.{State as DiskState}
 use Rattle.filter.specs.Test.{Test, tests_in}
 use Rattle.filter.specs.Deciding.{satisfies as all_satisfied}
@@ -89,21 +90,21 @@ abbrev pub Goes : OpenCursor → List FileGroup → DiskState → DiskState → 
 Goes c version old new (Ok r) = GoesTo c version r.passed old new
 Goes c version old new (Err e) = (to : ℕ) × GoesTo c version to old new
 
--- a cursor's keys are its table's, and the versions hold this one for it
-pub record Sees {D : Type 0} (store : Core D) (c : OpenCursor) (version : List FileGroup) : Type 0 where
-  pub keys : AreKeys (root_of c.table).keys (root_of c.table).schema
-  pub held : open_at c.number (state_of store.snapshots).cursors ≡ Some version
-
 -- After a refusal the cursor stands where it was; else it is where it went to.
 abbrev pub Went : {D T : Type 0} → (D → DiskState) → Core D → Core D → ℕ → OpenCursor → List FileGroup → Result T Refusal → Type 0
 Went state old new n c version (Ok answer) = (d : OpenCursor) × (cursor_at n new.cursors.items ≡ Some d) × (d ≡ moved d.passed d.ended c) × GoesTo c version d.passed (state old.vault.disk) (state new.vault.disk)
 Went state old new n c version (Err e) = (cursor_at n new.cursors.items ≡ Some c) × ((to : ℕ) × GoesTo c version to (state old.vault.disk) (state new.vault.disk))
 
--- One fetch of a cursor that is open. The versions hold what they held.
+-- One fetch, on any disk. The versions hold what they held. A cursor for which they hold a version goes on in it. For a cursor without
+-- one, for a number without a cursor, and by a store that is closed, nothing is read.
 pub record FetchReads {D T : Type 0} (state : D → DiskState) (old new : Core D) (n : ℕ) (result : Result T Refusal) : Type 0 where
   pub same : new.snapshots ≡ old.snapshots
-  pub goes : (c : OpenCursor) (version : List FileGroup) → old.closed ≡ false → cursor_at n old.cursors.items ≡ Some c → Sees old c version → Went state old new n c version result
+  pub goes : (c : OpenCursor) (version : List FileGroup) → old.closed ≡ false → cursor_at n old.cursors.items ≡ Some c
+      → open_at c.number (state_of old.snapshots).cursors ≡ Some version → Went state old new n c version result
+  pub unheld : (c : OpenCursor) → cursor_at n old.cursors.items ≡ Some c → open_at c.number (state_of old.snapshots).cursors ≡ None
+      → (state new.vault.disk).reads ≡ (state old.vault.disk).reads
   pub none : cursor_at n old.cursors.items ≡ None → (state new.vault.disk).reads ≡ (state old.vault.disk).reads
+  pub shut : old.closed ≡ true → (state new.vault.disk).reads ≡ (state old.vault.disk).reads
 
 -- ---- over a whole query
 

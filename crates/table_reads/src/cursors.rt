@@ -1,13 +1,13 @@
 //! Queries.
 
-ghost use Rattle.std.specs.Prelude.{◌≡◌, ◌≤◌, ◌↔◌, true};
+ghost use Rattle.std.specs.Prelude.{◌≡◌, ◌≤◌, ◌↔◌, true, OnErr};
 ghost use Rattle.filter.specs.Terms.{terms_view};
 ghost use Rattle.table.specs.Calls.{Answer, query, fetch, close, cursor, accepted, ended};
 ghost use Rattle.table.specs.Views.{names_view, fetched_view, answered};
 ghost use Rattle.table_commits.specs.Keeping.{LeavesFiles};
 ghost use Rattle.table_reads.specs.Passing.{FetchReads};
 ghost use Rattle.table_reads.specs.Shown.{IsShownAs};
-ghost use Rattle.table_state.specs.Promises.{Acts, HasCause, StaysClosed};
+ghost use Rattle.table_state.specs.Promises.{Acts, HasCause, StaysClosed, TouchesCursors};
 
 use crate::passing::{FetchedRows, fetched_of, move_cursor, next_rows, shown_of};
 use crate::wanted::{has_columns, places_of};
@@ -36,6 +36,7 @@ pub fn query<D: Disk>(
     ensures reads { (D.state store.new.vault.disk).reads ≡ (D.state store.old.vault.disk).reads }
     ensures leaves { LeavesFiles D.state store.old store.new }
     ensures closed { StaysClosed store.old store.new result }
+    ensures touches { TouchesCursors store.old store.new }
     ensures counts { (D.state store.old.vault.disk).failures ≤ (D.state store.new.vault.disk).failures }
     ensures honest { (D.state store.old.vault.disk).honest ↔ (D.state store.new.vault.disk).honest }
 {
@@ -76,6 +77,8 @@ pub fn fetch<D: Disk>(store: &mut Core<D>, alloc: Global, cursor: CursorId) -> R
     ensures reads { FetchReads D.state store.old store.new cursor result }
     ensures leaves { LeavesFiles D.state store.old store.new }
     ensures closed { StaysClosed store.old store.new result }
+    ensures touches { TouchesCursors store.old store.new }
+    ensures stays { OnErr result (store.new ≡ record store.old { vault = store.new.vault }) }
     ensures counts { (D.state store.old.vault.disk).failures ≤ (D.state store.new.vault.disk).failures }
     ensures honest { (D.state store.old.vault.disk).honest ↔ (D.state store.new.vault.disk).honest }
 {
@@ -111,6 +114,8 @@ pub fn fetch_rows<D: Disk>(
     ensures reads { FetchReads D.state store.old store.new cursor result }
     ensures leaves { LeavesFiles D.state store.old store.new }
     ensures closed { StaysClosed store.old store.new result }
+    ensures touches { TouchesCursors store.old store.new }
+    ensures stays { OnErr result (store.new ≡ record store.old { vault = store.new.vault }) }
     ensures counts { (D.state store.old.vault.disk).failures ≤ (D.state store.new.vault.disk).failures }
     ensures honest { (D.state store.old.vault.disk).honest ↔ (D.state store.new.vault.disk).honest }
 {
@@ -142,6 +147,7 @@ pub fn close<D: Disk>(store: &mut Core<D>, alloc: Global, cursor: CursorId) -> R
     // A store that keeps what is replaced removes nothing here.
     ensures leaves { store.old.keeps ≡ true → LeavesFiles D.state store.old store.new }
     ensures closed { StaysClosed store.old store.new result }
+    ensures touches { TouchesCursors store.old store.new }
     ensures counts { (D.state store.old.vault.disk).failures ≤ (D.state store.new.vault.disk).failures }
     ensures honest { (D.state store.old.vault.disk).honest ↔ (D.state store.new.vault.disk).honest }
 {

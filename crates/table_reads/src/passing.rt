@@ -55,8 +55,9 @@ pub(crate) fn next_rows<D: Disk>(
     ensures accepted { IfOk result (λ r. (rows : List ValueTrees) × AreReached r.rows rows) }
     ensures only { (D.state vault.old.disk).honest → (keys : List KeyColumn) (count : ℕ) (open_cursor : ℕ × Cursor) → ShowsCursor (D.state vault.old.disk) (state_of snapshots.now).cursors keys count cursor.now open_cursor
         → RefusedOnly IsDevice result }
-    ensures goes { (version : List FileGroup) → AreKeys (root_of cursor.now.table).keys (root_of cursor.now.table).schema → open_at cursor.now.number (state_of snapshots.now).cursors ≡ Some version
+    ensures goes { (version : List FileGroup) → open_at cursor.now.number (state_of snapshots.now).cursors ≡ Some version
         → Goes cursor.now version (D.state vault.old.disk) (D.state vault.new.disk) result }
+    ensures unheld { open_at cursor.now.number (state_of snapshots.now).cursors ≡ None → (D.state vault.new.disk).reads ≡ (D.state vault.old.disk).reads }
     ensures effect { OnlyReads (D.state vault.old.disk) (D.state vault.new.disk) result }
 {
     let count = cursor.table.groups().len();
@@ -87,7 +88,7 @@ fn rows_at<D: Disk>(
     ensures only { (D.state vault.old.disk).honest → AreKeys (root_of cursor.now.table).keys (root_of cursor.now.table).schema → (g : FileGroup) (rows : List ValueTrees)
         → group_in (version_at (state_of snapshots.now) (Some cursor.now.number)) place ≡ Some g → Holds (D.state vault.old.disk) (root_of cursor.now.table).keys (root_of cursor.now.table).schema g rows
         → RefusedOnly IsDevice result }
-    ensures reads { (g : FileGroup) → AreKeys (root_of cursor.now.table).keys (root_of cursor.now.table).schema → group_in (version_at (state_of snapshots.now) (Some cursor.now.number)) place ≡ Some g
+    ensures reads { (g : FileGroup) → group_in (version_at (state_of snapshots.now) (Some cursor.now.number)) place ≡ Some g
         → ReadsFor (tests_in cursor.now.filter) (root_of cursor.now.table).keys (root_of cursor.now.table).schema cursor.now.places.items g (D.state vault.old.disk) (D.state vault.new.disk) }
     ensures missing { group_in (version_at (state_of snapshots.now) (Some cursor.now.number)) place ≡ None → IsErr result × ((D.state vault.new.disk).reads ≡ (D.state vault.old.disk).reads) }
     ensures effect { OnlyReads (D.state vault.old.disk) (D.state vault.new.disk) result }

@@ -50,6 +50,26 @@ StaysClosed old new result = old.closed ≡ true → (result ≡ Err Closed) × 
 abbrev pub ClosesInDoubt : {D T : Type 0} → Core D → Result T Refusal → Type 0
 ClosesInDoubt new result = result ≡ Err InDoubt → new.closed ≡ true
 
+-- On any disk, whatever a call answers: which parts of a store it may change. All others are as they were.
+
+-- a commit of its own: the disk, the table, which files are in use, the next number of a file, and that the store is closed; no job, no
+-- cursor and no setting
+abbrev pub TouchesTable : {D : Type 0} → Core D → Core D → Type 0
+TouchesTable old new = new ≡ record old { vault = new.vault; manifest = new.manifest; snapshots = new.snapshots; next_group = new.next_group; closed = new.closed }
+
+-- a call on jobs: the disk, which files are in use, the next number of a file, and jobs; not the table, and no cursor
+abbrev pub TouchesJobs : {D : Type 0} → Core D → Core D → Type 0
+TouchesJobs old new = new ≡ record old { vault = new.vault; snapshots = new.snapshots; next_group = new.next_group; jobs = new.jobs; next_job = new.next_job }
+
+-- the commit of a job: as a commit of its own, and jobs
+abbrev pub TouchesTableAndJobs : {D : Type 0} → Core D → Core D → Type 0
+TouchesTableAndJobs old new =
+    new ≡ record old { vault = new.vault; manifest = new.manifest; snapshots = new.snapshots; next_group = new.next_group; jobs = new.jobs; closed = new.closed }
+
+-- a call on cursors: the disk, which files are in use, and cursors; not the table, and no job
+abbrev pub TouchesCursors : {D : Type 0} → Core D → Core D → Type 0
+TouchesCursors old new = new ≡ record old { vault = new.vault; snapshots = new.snapshots; cursors = new.cursors; next_cursor = new.next_cursor }
+
 -- the call is not answered in doubt
 abbrev pub IsSure : {T : Type 0} → Result T Refusal → Type 0
 IsSure result = result ≡ Err InDoubt → ⊥

@@ -41,6 +41,7 @@ impl<D: Disk> Core<D> {
     /// but where the jobs lie in memory.
     pub fn begin_job(&mut self, alloc: Global, sources: Option<Vec<u64>>, work: Work) -> R<JobId>
         requires counter { self.old.next_job < 2 ^ 64 - 1 }
+        ensures only { self.new ≡ record self.old { snapshots = self.new.snapshots; jobs = self.new.jobs; next_job = self.new.next_job } }
         ensures number { IfOk result (λ n. n ≡ self.old.next_job) }
         ensures steps { OnOk result (state_of self.new.snapshots ≡ after (state_of self.old.snapshots) (began self.old.next_job (option_map (λ ns. ns.items) sources))) }
         ensures pushed { OnOk result (self.new.jobs.items ≡ self.old.jobs.items ++ record { number = self.old.next_job; work = work } ∷ []) }
@@ -62,6 +63,7 @@ impl<D: Disk> Core<D> {
     /// Opens a cursor, which has the next number. Refused, nothing changes but where the cursors lie in memory.
     pub fn begin_cursor(&mut self, alloc: Global, cursor: OpenCursor) -> R<()>
         requires counter { self.old.next_cursor < 2 ^ 64 - 1 }
+        ensures only { self.new ≡ record self.old { snapshots = self.new.snapshots; cursors = self.new.cursors; next_cursor = self.new.next_cursor } }
         ensures steps { OnOk result (state_of self.new.snapshots ≡ after (state_of self.old.snapshots) (opened cursor.number)) }
         ensures pushed { OnOk result (self.new.cursors.items ≡ self.old.cursors.items ++ cursor ∷ []) }
         ensures same { OnOk result (self.new ≡ record self.old { snapshots = self.new.snapshots; cursors = self.new.cursors; next_cursor = self.old.next_cursor + 1 }) }

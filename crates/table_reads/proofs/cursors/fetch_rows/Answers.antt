@@ -10,7 +10,7 @@ use Rattle.table_reads.proofs.MovedCursors.{written_back}
 use Rattle.table_state.specs.Promises.{Acts, ActsFrom}
 use Rattle.table_commits.proofs.UnchangedRefusals.{acts_shut}
 use Rattle.table_reads.proofs.FetchesWithoutCursor.{fetch_none, fetch_over}
-use Rattle.table_reads.proofs.FetchesGoOn.{seen, at_of, none_at, poor, refused_so, went, reads_over, reads_went, reads_stopped}
+use Rattle.table_reads.proofs.FetchesGoOn.{seen, at_of, none_at, poor, refused_so, went, reads_over, reads_went, reads_stopped, reads_shut, reads_none}
 use Rattle.table_commits.proofs.GroupRemovals.{memory_so}
 use Rattle.table_reads.proofs.ShownRows.{over_is, shown_answer, shown_some}
 use Rattle.table_reads.proofs.FilesLeftAlone.{same, only_read}
@@ -52,6 +52,13 @@ returns-then-open-clause-acts g c answer is =
     (fetch_over g.D.Disk.state c.args.store.now c.args.cursor c.if-store.false c.in-Some.open.now
     (at_of c.args.cursor c.find_cursor.result c.in-Some.open (λ x. x.now) c.as_slice.result.now c.args.store.now.cursors.items c.in-Some.is c.find_cursor.ensures c.as_slice.ensures.value) c.if-open.true)
 
+pub returns-then-store-clause-reads : goal.returns-then-store-clause-reads
+returns-then-store-clause-reads g c = reads_shut g.D.Disk.state c.args.store.now c.args.cursor Closed c.if-store.true
+
+pub returns-in-None-clause-reads : goal.returns-in-None-clause-reads
+returns-in-None-clause-reads g c = reads_none g.D.Disk.state c.args.store.now c.args.cursor NoCursor
+    (none_at c.args.cursor c.find_cursor.result (λ x. x.now) c.as_slice.result.now c.args.store.now.cursors.items c.in-None.is c.find_cursor.ensures c.as_slice.ensures.value)
+
 pub returns-then-open-clause-reads : goal.returns-then-open-clause-reads
 returns-then-open-clause-reads g c = reads_over g.D.Disk.state c.args.store.now c.args.cursor c.in-Some.open.now
     (at_of c.args.cursor c.find_cursor.result c.in-Some.open (λ x. x.now) c.as_slice.result.now c.args.store.now.cursors.items c.in-Some.is c.find_cursor.ensures c.as_slice.ensures.value) None
@@ -72,7 +79,7 @@ returns-in_err-reached-in-Some-clause-reads g c =
     let old = c.args.store.now in
     let at = at_of c.args.cursor c.find_cursor.result c.in-Some.open (λ x. x.now) c.as_slice.result.now old.cursors.items c.in-Some.is c.find_cursor.ensures c.as_slice.ensures.value in
     refused (λ (r : Result (Option FetchedRows) Refusal). FetchReads g.D.Disk.state old (record old { vault = c.next_rows.new.vault }) c.args.cursor r) c.from_residual.result c.in_err-reached-in-Some.field-0.0 c.from_residual.ensures.1
-    (reads_stopped g.D.Disk.state old c.args.cursor c.in-Some.open.now at c.next_rows.new.vault c.in_err-reached-in-Some.field-0.0 c.in_err-reached-in-Some.ensures.goes)
+    (reads_stopped g.D.Disk.state old c.args.cursor c.in-Some.open.now at c.if-store.false c.next_rows.new.vault c.in_err-reached-in-Some.ensures.unheld c.in_err-reached-in-Some.field-0.0 c.in_err-reached-in-Some.ensures.goes)
 
 pub returns-in_err-fetched-in-Some-clause-acts : goal.returns-in_err-fetched-in-Some-clause-acts
 returns-in_err-fetched-in-Some-clause-acts g c answer is honest s stands =
@@ -88,7 +95,8 @@ returns-in_err-fetched-in-Some-clause-reads g c =
     let old = c.args.store.now in
     let at = at_of c.args.cursor c.find_cursor.result c.in-Some.open (λ x. x.now) c.as_slice.result.now old.cursors.items c.in-Some.is c.find_cursor.ensures c.as_slice.ensures.value in
     refused (λ (r : Result (Option FetchedRows) Refusal). FetchReads g.D.Disk.state old (record old { vault = c.next_rows.new.vault }) c.args.cursor r) c.from_residual-in_err-fetched-in-Some.result c.in_err-fetched-in-Some.field-0.0 c.from_residual-in_err-fetched-in-Some.ensures.1
-    (reads_stopped g.D.Disk.state old c.args.cursor c.in-Some.open.now at c.next_rows.new.vault c.in_err-fetched-in-Some.field-0.0 (λ version k e. (c.in_ok-reached-in-Some.reached.passed, c.in_ok-reached-in-Some.ensures.goes version k e)))
+    (reads_stopped g.D.Disk.state old c.args.cursor c.in-Some.open.now at c.if-store.false c.next_rows.new.vault c.in_ok-reached-in-Some.ensures.unheld c.in_err-fetched-in-Some.field-0.0
+    (λ version e. (c.in_ok-reached-in-Some.reached.passed, c.in_ok-reached-in-Some.ensures.goes version e)))
 
 pub returns-in_ok-fetched-in-Some-clause-acts : goal.returns-in_ok-fetched-in-Some-clause-acts
 returns-in_ok-fetched-in-Some-clause-acts g c answer is honest s stands =
@@ -105,7 +113,7 @@ pub returns-in_ok-fetched-in-Some-clause-reads : goal.returns-in_ok-fetched-in-S
 returns-in_ok-fetched-in-Some-clause-reads g c =
     let old = c.args.store.now in
     let at = at_of c.args.cursor c.find_cursor.result c.in-Some.open (λ x. x.now) c.as_slice.result.now old.cursors.items c.in-Some.is c.find_cursor.ensures c.as_slice.ensures.value in
-    reads_went g.D.Disk.state old c.args.cursor c.in-Some.open.now at c.next_rows.new.vault _ c.in_ok-reached-in-Some.reached.passed c.is_none-ended.result c.in_ok-fetched-in-Some.fetched
+    reads_went g.D.Disk.state old c.args.cursor c.in-Some.open.now at c.if-store.false c.next_rows.new.vault c.in_ok-reached-in-Some.ensures.unheld _ c.in_ok-reached-in-Some.reached.passed c.is_none-ended.result c.in_ok-fetched-in-Some.fetched
     (written_back c.args.cursor c.in_ok-reached-in-Some.reached.passed c.is_none-ended.result old.cursors.len old.cursors.items c.as_mut_slice.result.now c.move_cursor.new.cursors _ old.cursors.ok.0 c.as_mut_slice.ensures.value c.move_cursor.ensures) c.in_ok-reached-in-Some.ensures.goes
 
 pub returns-then-store-clause-leaves : goal.returns-then-store-clause-leaves

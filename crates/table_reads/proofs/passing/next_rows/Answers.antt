@@ -9,7 +9,7 @@ use Rattle.table_reads.specs.declared.passing.Reached.{Reached}
 use Rattle.table_reads.specs.Passing.{Goes, GoesTo}
 use Rattle.table_reads.specs.Reading.{OnlyReads}
 use Rattle.table_reads.proofs.ReadsOfPassedGroups.{reading_ends, reading_done}
-use Rattle.table_reads.proofs.CursorsGoOn.{going_here, can, file, group, is_there, held, went_or_not, goes_past, read_on, passes_over, comes_to, none_left, none_reached, some_reached}
+use Rattle.table_reads.proofs.CursorsGoOn.{going_here, can, file, group, is_there, held, went_or_not, goes_past, held_one, unheld_here, read_on, passes_over, comes_to, none_left, none_reached, some_reached}
 use Rattle.table_reads.proofs.passing.next_rows.Goals as goal
 
 pub loop-place-init : goal.loop-place-init
@@ -30,12 +30,17 @@ returns-in_err-rows-clause-only g c honest keys count d z =
     (group old versions cursor p mid new so_far honest keys count d z low).rows (is_there old versions cursor p mid new so_far honest keys count d z low) (held old versions cursor p mid new so_far honest keys count d z low))
 
 pub returns-in_err-rows-clause-goes : goal.returns-in_err-rows-clause-goes
-returns-in_err-rows-clause-goes g c version k e =
+returns-in_err-rows-clause-goes g c version e =
     let old = g.D.Disk.state c.args.vault.now.disk in
     let mid = g.D.Disk.state c.loop-place.vault.disk in
     let new = g.D.Disk.state c.rows_at.new.vault.disk in
     refused (λ (r : Result Reached Refusal). Goes c.args.cursor.now version old new r) c.from_residual.result c.in_err-rows.field-0.0 c.from_residual.ensures.1
-    (went_or_not old (state_of c.args.snapshots.now) c.args.cursor.now c.loop-place.place mid new c.loop-place.invariant.going c.in_err-rows.ensures.reads (λ n. (c.in_err-rows.ensures.missing n).1) version k e)
+    (went_or_not old (state_of c.args.snapshots.now) c.args.cursor.now c.loop-place.place mid new c.loop-place.invariant.going c.in_err-rows.ensures.reads (λ n. (c.in_err-rows.ensures.missing n).1) version e)
+
+pub returns-in_err-rows-clause-unheld : goal.returns-in_err-rows-clause-unheld
+returns-in_err-rows-clause-unheld g c =
+    unheld_here (g.D.Disk.state c.args.vault.now.disk) (state_of c.args.snapshots.now) c.args.cursor.now c.loop-place.place (g.D.Disk.state c.loop-place.vault.disk) (g.D.Disk.state c.rows_at.new.vault.disk)
+    c.loop-place.invariant.going (λ n. (c.in_err-rows.ensures.missing n).1)
 
 pub returns-in_err-rows-clause-effect : goal.returns-in_err-rows-clause-effect
 returns-in_err-rows-clause-effect g c =
@@ -55,12 +60,20 @@ returns-then-is_some-clause-stands g c honest keys count d z rows reached =
     (some_reached c.in_ok-rows.rows rows (sym c.is_some.ensures ∙ c.if-is_some.true) reached) honest keys count d z
 
 pub returns-then-is_some-clause-goes : goal.returns-then-is_some-clause-goes
-returns-then-is_some-clause-goes g c version k e =
+returns-then-is_some-clause-goes g c version e =
     let p = c.loop-place.place in
     let cursor = c.args.cursor.now in
     let low : p < length (root_of cursor.table).groups = subst (λ (gs : List FileGroup). p < length gs) c.groups.ensures.are (omega (arith, c.loop-place-test.true, c.len-count.ensures)) in
     goes_past (g.D.Disk.state c.args.vault.now.disk) (state_of c.args.snapshots.now) cursor p (g.D.Disk.state c.loop-place.vault.disk) (g.D.Disk.state c.rows_at.new.vault.disk) c.loop-place.invariant.going
-    (p + 1) (omega arith) c.in_ok-rows.rows c.in_ok-rows.ensures.accepted.0 c.in_ok-rows.ensures.reads (λ n. let f : false ≡ true = (c.in_ok-rows.ensures.missing n).0 in cc) c.in_ok-rows.ensures.effect (λ h o k f rs t hs. c.in_ok-rows.ensures.stands h o k f rs t hs c.in_ok-rows.ensures.accepted.0 c.in_ok-rows.ensures.accepted.1) low version k e
+    (p + 1) (omega arith) c.in_ok-rows.rows c.in_ok-rows.ensures.accepted.0 c.in_ok-rows.ensures.reads (λ n. let f : false ≡ true = (c.in_ok-rows.ensures.missing n).0 in cc) c.in_ok-rows.ensures.effect (λ h o k f rs t hs. c.in_ok-rows.ensures.stands h o k f rs t hs c.in_ok-rows.ensures.accepted.0 c.in_ok-rows.ensures.accepted.1) low version e
+
+pub returns-then-is_some-clause-unheld : goal.returns-then-is_some-clause-unheld
+returns-then-is_some-clause-unheld g c =
+    let p = c.loop-place.place in
+    let cursor = c.args.cursor.now in
+    let low : p < length (root_of cursor.table).groups = subst (λ (gs : List FileGroup). p < length gs) c.groups.ensures.are (omega (arith, c.loop-place-test.true, c.len-count.ensures)) in
+    held_one (g.D.Disk.state c.args.vault.now.disk) (state_of c.args.snapshots.now) cursor p (g.D.Disk.state c.loop-place.vault.disk) (g.D.Disk.state c.rows_at.new.vault.disk) c.loop-place.invariant.going
+    (p + 1) (omega arith) c.in_ok-rows.rows c.in_ok-rows.ensures.accepted.0 c.in_ok-rows.ensures.reads (λ n. let f : false ≡ true = (c.in_ok-rows.ensures.missing n).0 in cc) c.in_ok-rows.ensures.effect (λ h o k f rs t hs. c.in_ok-rows.ensures.stands h o k f rs t hs c.in_ok-rows.ensures.accepted.0 c.in_ok-rows.ensures.accepted.1) low
 
 pub returns-then-is_some-clause-effect : goal.returns-then-is_some-clause-effect
 returns-then-is_some-clause-effect g c =
@@ -90,7 +103,10 @@ returns-clause-stands g c honest keys count d z rows none =
     none_left (g.D.Disk.state c.args.vault.now.disk) (state_of c.args.snapshots.now) c.args.cursor.now p (g.D.Disk.state c.loop-place.vault.disk) c.loop-place.invariant.going honest keys count d z le c.loop-place.passed rows none c.loop-place.invariant.at
 
 pub returns-clause-goes : goal.returns-clause-goes
-returns-clause-goes g c version k e = subst (λ (n : ℕ). GoesTo c.args.cursor.now version n (g.D.Disk.state c.args.vault.now.disk) (g.D.Disk.state c.loop-place.vault.disk)) (sym c.loop-place.invariant.at) (c.loop-place.invariant.going.goes version k e)
+returns-clause-goes g c version e = subst (λ (n : ℕ). GoesTo c.args.cursor.now version n (g.D.Disk.state c.args.vault.now.disk) (g.D.Disk.state c.loop-place.vault.disk)) (sym c.loop-place.invariant.at) (c.loop-place.invariant.going.goes version e)
+
+pub returns-clause-unheld : goal.returns-clause-unheld
+returns-clause-unheld g c = c.loop-place.invariant.going.unheld
 
 pub returns-clause-effect : goal.returns-clause-effect
 returns-clause-effect g c = reading_done (g.D.Disk.state c.args.vault.now.disk) (g.D.Disk.state c.loop-place.vault.disk) _ c.loop-place.invariant.going.read

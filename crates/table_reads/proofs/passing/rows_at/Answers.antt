@@ -32,12 +32,12 @@ returns-in-Some-clause-only g c honest are f rows there holds =
     (λ k z. c.read.ensures.only honest k rows z) are holds
 
 pub returns-in-Some-clause-reads : goal.returns-in-Some-clause-reads
-returns-in-Some-clause-reads g c f are there =
+returns-in-Some-clause-reads g c f there =
     let root = root_of c.args.cursor.now.table in
-    all_same (λ ks fs x ps. AreKeys ks fs → ReadsFor (tests_in c.args.cursor.now.filter) ks fs ps x (g.D.Disk.state c.args.vault.now.disk) (g.D.Disk.state c.read.new.vault.disk))
+    all_same (λ ks fs x ps. ReadsFor (tests_in c.args.cursor.now.filter) ks fs ps x (g.D.Disk.state c.args.vault.now.disk) (g.D.Disk.state c.read.new.vault.disk))
     (key_columns_view c.keys.result.now) root.keys c.schema.result.now root.schema (group_view c.in-Some.group.now) f c.as_slice.result.now c.args.cursor.now.places.items c.keys.ensures.are c.schema.ensures
     (found c.group_at.result c.in-Some.group (λ x. group_view x.now) (group_in (version_at (state_of c.args.snapshots.now) (Some c.args.cursor.now.number)) c.args.place) f c.in-Some.is c.group_at.ensures there) c.as_slice.ensures.value
-    (λ k. record { no_more = c.read.ensures.cost; no_less = c.read.ensures.reads; none = λ r. c.read.ensures.unread r }) are
+    (record { no_more = c.read.ensures.cost; no_less = c.read.ensures.reads; none = λ r. c.read.ensures.unread r })
 
 pub returns-in-Some-clause-missing : goal.returns-in-Some-clause-missing
 returns-in-Some-clause-missing g c none = absurd (is_missing c.group_at.result c.in-Some.group (λ x. group_view x.now) (group_in (version_at (state_of c.args.snapshots.now) (Some c.args.cursor.now.number)) c.args.place) c.in-Some.is c.group_at.ensures none)
@@ -49,7 +49,7 @@ pub returns-in-None-clause-only : goal.returns-in-None-clause-only
 returns-in-None-clause-only g c honest are f rows there holds = absurd (not_found c.group_at.result (λ x. group_view x.now) (group_in (version_at (state_of c.args.snapshots.now) (Some c.args.cursor.now.number)) c.args.place) f c.in-None.is c.group_at.ensures there)
 
 pub returns-in-None-clause-reads : goal.returns-in-None-clause-reads
-returns-in-None-clause-reads g c f are there = absurd (not_found c.group_at.result (λ x. group_view x.now) (group_in (version_at (state_of c.args.snapshots.now) (Some c.args.cursor.now.number)) c.args.place) f c.in-None.is c.group_at.ensures there)
+returns-in-None-clause-reads g c f there = absurd (not_found c.group_at.result (λ x. group_view x.now) (group_in (version_at (state_of c.args.snapshots.now) (Some c.args.cursor.now.number)) c.args.place) f c.in-None.is c.group_at.ensures there)
 
 pub returns-in-Some-clause-accepted : goal.returns-in-Some-clause-accepted
 returns-in-Some-clause-accepted g c = reached_accepted c.read.result c.read.ensures.accepted
