@@ -1,10 +1,10 @@
 //! Changes that are one call each.
 
-ghost use Rattle.std.specs.Prelude.{◌≤◌, ◌↔◌, ◌≡◌, List, false, Err, ◌<◌};
+ghost use Rattle.std.specs.Prelude.{◌≤◌, ◌↔◌, ◌≡◌, List, false, Err, ◌<◌, IfOk};
 ghost use Rattle.schema.specs.Views.{rows_view};
 ghost use Rattle.table.specs.Calls.{append, done, import, remove, remove_groups, add_column};
 ghost use Rattle.table.specs.Views.{answered};
-ghost use Rattle.table_state.specs.Promises.{Acts, HasCause, StaysClosed, ClosesInDoubt};
+ghost use Rattle.table_state.specs.Promises.{Acts, HasCause, StaysClosed, ClosesInDoubt, TouchesTable};
 ghost use Rattle.gather.specs.GatheredRows.{holds};
 ghost use Rattle.manifest.specs.Groups.{root_of};
 ghost use Rattle.table.specs.Table.{Row as TableRow};
@@ -30,6 +30,8 @@ impl<D: Disk> Store<D> {
         ensures cause { HasCause D.state self.old self.new (answered done result) }
         ensures closed { StaysClosed self.old self.new result }
         ensures doubt { ClosesInDoubt self.new result }
+        ensures unwritten { IfOk result (λ n. n ≡ 0 → self.new ≡ self.old) }
+        ensures touches { TouchesTable self.old self.new }
         ensures counts { (D.state self.old.vault.disk).failures ≤ (D.state self.new.vault.disk).failures }
         ensures honest { (D.state self.old.vault.disk).honest ↔ (D.state self.new.vault.disk).honest }
     {
@@ -52,6 +54,8 @@ impl<D: Disk> Store<D> {
             → (result ≡ Err Refusal.Schema) × (self.new ≡ self.old) }
         ensures closed { StaysClosed self.old self.new result }
         ensures doubt { ClosesInDoubt self.new result }
+        ensures unwritten { IfOk result (λ n. n ≡ 0 → self.new ≡ self.old) }
+        ensures touches { TouchesTable self.old self.new }
         ensures counts { (D.state self.old.vault.disk).failures ≤ (D.state self.new.vault.disk).failures }
         ensures honest { (D.state self.old.vault.disk).honest ↔ (D.state self.new.vault.disk).honest }
     {
@@ -69,6 +73,8 @@ impl<D: Disk> Store<D> {
         ensures cause { HasCause D.state self.old self.new (answered done result) }
         ensures closed { StaysClosed self.old self.new result }
         ensures doubt { ClosesInDoubt self.new result }
+        ensures unwritten { IfOk result (λ n. n ≡ 0 → self.new ≡ self.old) }
+        ensures touches { TouchesTable self.old self.new }
         ensures counts { (D.state self.old.vault.disk).failures ≤ (D.state self.new.vault.disk).failures }
         ensures honest { (D.state self.old.vault.disk).honest ↔ (D.state self.new.vault.disk).honest }
     {
@@ -91,6 +97,7 @@ impl<D: Disk> Store<D> {
         ensures cause { HasCause D.state self.old self.new (answered done result) }
         ensures closed { StaysClosed self.old self.new result }
         ensures doubt { ClosesInDoubt self.new result }
+        ensures touches { TouchesTable self.old self.new }
         ensures counts { (D.state self.old.vault.disk).failures ≤ (D.state self.new.vault.disk).failures }
         ensures honest { (D.state self.old.vault.disk).honest ↔ (D.state self.new.vault.disk).honest }
     {
@@ -106,6 +113,7 @@ impl<D: Disk> Store<D> {
         ensures cause { HasCause D.state self.old self.new (answered done result) }
         ensures closed { StaysClosed self.old self.new result }
         ensures doubt { ClosesInDoubt self.new result }
+        ensures touches { TouchesTable self.old self.new }
         ensures counts { (D.state self.old.vault.disk).failures ≤ (D.state self.new.vault.disk).failures }
         ensures honest { (D.state self.old.vault.disk).honest ↔ (D.state self.new.vault.disk).honest }
     {
@@ -123,6 +131,7 @@ impl<D: Disk> Store<D> {
         ensures cause { HasCause D.state self.old self.new (answered done result) }
         ensures closed { StaysClosed self.old self.new result }
         ensures doubt { ClosesInDoubt self.new result }
+        ensures touches { TouchesTable self.old self.new }
         ensures counts { (D.state self.old.vault.disk).failures ≤ (D.state self.new.vault.disk).failures }
         ensures honest { (D.state self.old.vault.disk).honest ↔ (D.state self.new.vault.disk).honest }
     {

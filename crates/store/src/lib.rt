@@ -21,7 +21,7 @@ pub use restart::{
     an_opening_finds_what_a_crash_left,
 };
 pub use store::Store;
-pub use table_changes::begin_gathering;
+pub use table_changes::{begin_gathering, gather_file};
 pub use table_openings::{heavy_roots_are_too_much, new_files_are_free, paths_are_apart};
 pub use table_reads::{FetchedRows, fetches_follow, queries_read_once};
 pub use table_state::{Appending, OpenCursor, OpenJob, Rewriting, Work};

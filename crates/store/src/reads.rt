@@ -1,13 +1,13 @@
 //! Reading.
 
-ghost use Rattle.std.specs.Prelude.{◌≡◌, ◌≤◌, ◌↔◌, true, [], IfOk, map};
+ghost use Rattle.std.specs.Prelude.{◌≡◌, ◌≤◌, ◌↔◌, true, [], IfOk, map, OnErr};
 ghost use Rattle.filter.specs.Terms.{terms_view};
 ghost use Rattle.table.specs.Calls.{Answer, query, fetch, close, cursor, accepted, ended, count, counted, groups, plan_rewrite, planned, listed};
 ghost use Rattle.table.specs.Views.{names_view, fetched_view, answered, info_view};
 ghost use Rattle.table_commits.specs.Keeping.{LeavesFiles};
 ghost use Rattle.table_reads.specs.Passing.{FetchReads};
 ghost use Rattle.table_reads.specs.Shown.{IsShownAs};
-ghost use Rattle.table_state.specs.Promises.{Acts, HasCause, StaysClosed};
+ghost use Rattle.table_state.specs.Promises.{Acts, HasCause, StaysClosed, TouchesCursors};
 ghost use Rattle.manifest.specs.Groups.{root_of};
 ghost use Rattle.table_reads.specs.Listing.{told_of, told_by};
 
@@ -36,6 +36,7 @@ impl<D: Disk> Store<D> {
         ensures reads { (D.state self.new.vault.disk).reads ≡ (D.state self.old.vault.disk).reads }
         ensures leaves { LeavesFiles D.state self.old self.new }
         ensures closed { StaysClosed self.old self.new result }
+        ensures touches { TouchesCursors self.old self.new }
         ensures counts { (D.state self.old.vault.disk).failures ≤ (D.state self.new.vault.disk).failures }
         ensures honest { (D.state self.old.vault.disk).honest ↔ (D.state self.new.vault.disk).honest }
     {
@@ -54,6 +55,8 @@ impl<D: Disk> Store<D> {
         ensures reads { FetchReads D.state self.old self.new cursor result }
         ensures leaves { LeavesFiles D.state self.old self.new }
         ensures closed { StaysClosed self.old self.new result }
+        ensures touches { TouchesCursors self.old self.new }
+        ensures stays { OnErr result (self.new ≡ record self.old { vault = self.new.vault }) }
         ensures counts { (D.state self.old.vault.disk).failures ≤ (D.state self.new.vault.disk).failures }
         ensures honest { (D.state self.old.vault.disk).honest ↔ (D.state self.new.vault.disk).honest }
     {
@@ -69,6 +72,8 @@ impl<D: Disk> Store<D> {
         ensures reads { FetchReads D.state self.old self.new cursor result }
         ensures leaves { LeavesFiles D.state self.old self.new }
         ensures closed { StaysClosed self.old self.new result }
+        ensures touches { TouchesCursors self.old self.new }
+        ensures stays { OnErr result (self.new ≡ record self.old { vault = self.new.vault }) }
         ensures counts { (D.state self.old.vault.disk).failures ≤ (D.state self.new.vault.disk).failures }
         ensures honest { (D.state self.old.vault.disk).honest ↔ (D.state self.new.vault.disk).honest }
     {
@@ -84,6 +89,7 @@ impl<D: Disk> Store<D> {
         // A store that keeps what is replaced removes nothing here.
         ensures leaves { self.old.keeps ≡ true → LeavesFiles D.state self.old self.new }
         ensures closed { StaysClosed self.old self.new result }
+        ensures touches { TouchesCursors self.old self.new }
         ensures counts { (D.state self.old.vault.disk).failures ≤ (D.state self.new.vault.disk).failures }
         ensures honest { (D.state self.old.vault.disk).honest ↔ (D.state self.new.vault.disk).honest }
     {

@@ -19,6 +19,10 @@ use Rattle.table.specs.Calls.{refused}
 use Rattle.table.specs.Refusing.{is_failure}
 use Rattle.table_commits.specs.Gathering.{AreGatheredFor, KeepsTable, GathersNext, AreOnTheWay}
 
+-- rows that are gathered for a table stay so
+pub keeps_on : {old mid new : Gathered} → KeepsTable old mid → KeepsTable mid new → KeepsTable old new
+keeps_on a b = record { schema = b.schema ∙ a.schema; columns = b.columns ∙ a.columns; size = b.size ∙ a.size }
+
 -- what is gathered for a table goes on to be
 pub kept_table : {root : Root} {options : WriteOptions} {old new : Gathered} → AreGatheredFor root options old → KeepsTable old new → AreGatheredFor root options new
 kept_table t k = record { schema = k.schema ∙ t.schema; columns = k.columns ∙ t.columns; size = k.size ∙ t.size }
@@ -62,26 +66,30 @@ next_gathered S T old begun shown new begins takes ends = λ left stood.
     }
 
 -- none is on the way yet
-pub none_yet : (S : List ValueTrees → Type 0) (g : Gathered) (rows : List ValueTrees) → S rows → holds g [] → AreOnTheWay S g rows
-none_yet S g rows stood held = record { taken = []; left = rows; split = refl; stands = stood; held = held }
+pub none_yet : (S : List ValueTrees → Type 0) (g : Gathered) (before rows : List ValueTrees) → S rows → holds g before → AreOnTheWay S g before rows
+none_yet S g before rows stood held = record { taken = []; left = rows; split = refl; stands = stood; held = subst (holds g) (sym (append-nil before)) held }
 
 first_fits : (fs : Fields) (taken rest : List ValueTrees) (first : ValueTrees) → RowsFit fs (taken ++ first ∷ rest) → IsTrue (fits_each fs first)
 first_fits fs [] rest first fit = fit.0
 first_fits fs (row ∷ taken) rest first fit = first_fits fs taken rest first fit.1
 
 -- one more is on the way
-pub one_more : (S T : List ValueTrees → Type 0) (old new : Gathered) (rows : List ValueTrees) → RowsFit (schema_of old) rows → GathersNext S T old new (Ok true) → AreOnTheWay S old rows → AreOnTheWay T new rows
-one_more S T old new rows fit next way =
+pub one_more : (S T : List ValueTrees → Type 0) (old new : Gathered) (before rows : List ValueTrees) → RowsFit (schema_of old) rows → GathersNext S T old new (Ok true) → AreOnTheWay S old before rows
+    → AreOnTheWay T new before rows
+one_more S T old new before rows fit next way =
     let n = next way.left way.stands in
     let split : rows ≡ way.taken ++ n.first ∷ n.rest = way.split ∙ ap (λ (rs : List ValueTrees). way.taken ++ rs) n.split in
+    let fits = first_fits (schema_of old) way.taken n.rest n.first (subst (RowsFit (schema_of old)) split fit) in
     record {
       taken = way.taken ++ n.first ∷ [];
       left = n.rest;
       split = split ∙ sym (append_assoc way.taken (n.first ∷ []) n.rest);
       stands = n.stands;
-      held = n.held way.taken way.held (first_fits (schema_of old) way.taken n.rest n.first (subst (RowsFit (schema_of old)) split fit));
+      held = subst (holds new) (append_assoc before way.taken (n.first ∷ [])) (n.held (before ++ way.taken) way.held fits);
     }
 
 -- all are gathered
-pub all_there : (S : List ValueTrees → Type 0) (g : Gathered) (rows : List ValueTrees) (way : AreOnTheWay S g rows) → way.left ≡ [] → holds g rows
-all_there S g rows way none = subst (holds g) (sym (way.split ∙ ap (λ (rs : List ValueTrees). way.taken ++ rs) none ∙ append-nil way.taken)) way.held
+pub all_there : (S : List ValueTrees → Type 0) (g : Gathered) (before rows : List ValueTrees) (way : AreOnTheWay S g before rows) → way.left ≡ [] → holds g (before ++ rows)
+all_there S g before rows way none =
+    let all : rows ≡ way.taken = way.split ∙ ap (λ (rs : List ValueTrees). way.taken ++ rs) none ∙ append-nil way.taken in
+    subst (λ (rs : List ValueTrees). holds g (before ++ rs)) (sym all) way.held

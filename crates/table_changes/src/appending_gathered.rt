@@ -15,7 +15,7 @@ ghost use Rattle.table.specs.Checks.{fault};
 ghost use Rattle.table.specs.Refusing.{is_failure};
 ghost use Rattle.table.specs.Views.{answered};
 ghost use Rattle.table_state.specs.Stands.{Stands};
-ghost use Rattle.table_state.specs.Promises.{Acts, ActsFrom, HasCause, StaysClosed, ClosesInDoubt, IsSure};
+ghost use Rattle.table_state.specs.Promises.{Acts, ActsFrom, HasCause, StaysClosed, ClosesInDoubt, IsSure, TouchesTable};
 ghost use Rattle.table_commits.specs.Filling.{HasWritten, AreFine, EndsWith};
 
 use crate::comparing::same_schema;
@@ -52,6 +52,8 @@ pub fn append_gathered<D: Disk>(
         → (result ≡ Err Refusal.Schema) × (store.new ≡ store.old) }
     ensures closed { StaysClosed store.old store.new result }
     ensures doubt { ClosesInDoubt store.new result }
+    ensures unwritten { IfOk result (λ n. n ≡ 0 → store.new ≡ store.old) }
+    ensures touches { TouchesTable store.old store.new }
     ensures counts { (D.state store.old.vault.disk).failures ≤ (D.state store.new.vault.disk).failures }
     ensures honest { (D.state store.old.vault.disk).honest ↔ (D.state store.new.vault.disk).honest }
 {
@@ -98,6 +100,8 @@ fn append_groups<D: Disk>(
         → HoldGroups s.table.keys s.options.group_rows (stored_of (root_of store.old.manifest)) rows groups.entry.items
         → is_failure (answered done result) ≡ true → HasFailed (D.state store.old.vault.disk) (D.state store.new.vault.disk) }
     ensures doubt { ClosesInDoubt store.new result }
+    ensures counted { IfOk result (λ n. n ≡ count) }
+    ensures touches { TouchesTable store.old store.new }
     ensures counts { (D.state store.old.vault.disk).failures ≤ (D.state store.new.vault.disk).failures }
     ensures honest { (D.state store.old.vault.disk).honest ↔ (D.state store.new.vault.disk).honest }
 {

@@ -7,7 +7,7 @@ ghost use Rattle.planning.specs.Replaced.{without};
 ghost use Rattle.table_commits.specs.Dropping.{rows_in};
 ghost use Rattle.table.specs.Calls.{remove_groups, done};
 ghost use Rattle.table.specs.Views.{answered};
-ghost use Rattle.table_state.specs.Promises.{Acts, HasCause, StaysClosed, ClosesInDoubt};
+ghost use Rattle.table_state.specs.Promises.{Acts, HasCause, StaysClosed, ClosesInDoubt, TouchesTable};
 
 use bits::{R, Refusal};
 use disk::Disk;
@@ -31,6 +31,7 @@ pub fn remove_groups<D: Disk>(store: &mut Core<D>, alloc: Global, numbers: &[u64
     ensures cause { HasCause D.state store.old store.new (answered done result) }
     ensures closed { StaysClosed store.old store.new result }
     ensures doubt { ClosesInDoubt store.new result }
+    ensures touches { TouchesTable store.old store.new }
     ensures counts { (D.state store.old.vault.disk).failures ≤ (D.state store.new.vault.disk).failures }
     ensures honest { (D.state store.old.vault.disk).honest ↔ (D.state store.new.vault.disk).honest }
 {

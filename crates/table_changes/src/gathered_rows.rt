@@ -1,14 +1,14 @@
 //! Rows that are gathered for a table.
 
-ghost use Rattle.std.specs.Prelude.{◌≡◌, [], List, false, Ok, IfOk, IfErr};
-ghost use Rattle.bits.specs.Refusals.{RefusedOnly, RefusedMemoryOnly};
+ghost use Rattle.std.specs.Prelude.{◌≡◌, ◌++◌, [], List, false, Ok, IfOk, IfErr, OnOk};
+ghost use Rattle.bits.specs.Refusals.{OnFault, RefusedOnly, RefusedMemoryOnly};
 ghost use Rattle.schema.specs.Fits.{RowsFit};
 ghost use Rattle.schema.specs.Values.{ValueTrees};
 ghost use Rattle.schema.specs.Views.{rows_view};
 ghost use Rattle.footer.specs.Left.{rows_of_file, rows_stand};
-ghost use Rattle.gather.specs.GatheredRows.{holds};
+ghost use Rattle.gather.specs.GatheredRows.{holds, schema_of};
 ghost use Rattle.manifest.specs.Groups.{root_of};
-ghost use Rattle.table_commits.specs.Gathering.{AreGatheredFor, GathersNext, KeepsTable, IsReadFor, IsNotRead};
+ghost use Rattle.table_commits.specs.Gathering.{AreGatheredFor, GathersNext, GathersFile, KeepsTable, IsReadFor, IsNotRead};
 
 use crate::comparing::same_schema;
 use assemble::RowSink;
@@ -57,7 +57,7 @@ pub(crate) fn gather_rows<'a>(
 
 /// The rows of the bytes of a file, gathered for a table of its schema. No row is made.
 ///
-/// Refused as [`FileReader::new`] refuses the bytes; and Schema where the file's is not the table's, field for field.
+/// Refused as [`gather_file`].
 pub(crate) fn gather_bytes<'a>(
     alloc: Global,
     table: &'a Manifest,
@@ -67,30 +67,40 @@ pub(crate) fn gather_bytes<'a>(
     ensures read { IfOk result (IsReadFor (root_of table.now) options.now bytes.now) }
     ensures which { IfErr result (IsNotRead (root_of table.now).schema bytes.now) }
 {
-    let file = FileReader::new(alloc, bytes)?;
-    if !same_schema(file.schema(), table.schema()) {
-        return Err(Refusal::Schema);
-    }
-    let gathered = gather_file(alloc, table, options, &file)?;
+    let mut gathered = begin_gathering(alloc, table, options)?;
+    gather_file(alloc, &mut gathered, bytes)?;
     Ok(gathered)
 }
 
-/// The rows of a file that was accepted, gathered for a table that they fit. No row is made. It fails only when out of memory.
-fn gather_file<'a>(
-    alloc: Global,
-    table: &'a Manifest,
-    options: &WriteOptions,
-    file: &FileReader<'_>,
-) -> R<Gathered<'a>>
-    ensures held { IfOk result (λ g. (rows : List ValueTrees) → rows_of_file file.now rows → RowsFit (root_of table.now).schema rows → holds g rows) }
-    ensures table { IfOk result (AreGatheredFor (root_of table.now) options.now) }
+/// Gathers the rows of the bytes of a file, behind those that are gathered. No row is made.
+///
+/// Refused as [`FileReader::new`] refuses the bytes; and Schema where the file's is not that of the rows, field for field. After
+/// such a refusal the same rows are gathered. Out of memory, some of the file's may be too.
+pub fn gather_file(alloc: Global, gathered: &mut Gathered<'_>, bytes: &[u8]) -> R<()>
+    ensures read { OnOk result ((before : List ValueTrees) → holds gathered.old before → GathersFile (schema_of gathered.old) bytes.now before gathered.new) }
+    ensures table { KeepsTable gathered.old gathered.new }
+    ensures same { OnFault result (gathered.new ≡ gathered.old) }
+    ensures which { IfErr result (IsNotRead (schema_of gathered.old) bytes.now) }
+{
+    let file = FileReader::new(alloc, bytes)?;
+    if !same_schema(file.schema(), gathered.schema()) {
+        return Err(Refusal::Schema);
+    }
+    gather_accepted(alloc, gathered, &file)?;
+    Ok(())
+}
+
+/// Gathers the rows of a file that was accepted. They fit. No row is made. It fails only when out of memory.
+fn gather_accepted(alloc: Global, gathered: &mut Gathered<'_>, file: &FileReader<'_>) -> R<()>
+    ensures held { OnOk result ((before rows : List ValueTrees) → holds gathered.old before → rows_of_file file.now rows → RowsFit (schema_of gathered.old) rows
+        → holds gathered.new (before ++ rows)) }
+    ensures table { KeepsTable gathered.old gathered.new }
     ensures only { (rows : List ValueTrees) → rows_of_file file.now rows → RefusedMemoryOnly result }
 {
-    let mut gathered = begin_gathering(alloc, table, options)?;
     let mut rows = file.rows(alloc);
     'rows: for _ in 0..u64::MAX {
-        if !gather_next(&mut rows, &mut gathered)? {
-            return Ok(gathered);
+        if !gather_next(&mut rows, gathered)? {
+            return Ok(());
         }
     }
     // Never reached: no file has as many rows.

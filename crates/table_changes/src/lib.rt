@@ -18,6 +18,6 @@ pub use appending::append;
 pub use appending_gathered::append_gathered;
 pub use columns::add_column;
 pub use dropping::remove_groups;
-pub use gathered_rows::begin_gathering;
+pub use gathered_rows::{begin_gathering, gather_file};
 pub use importing::import;
 pub use removing::remove;

@@ -24,7 +24,7 @@ ghost use Rattle.table.specs.Refusing.{is_failure};
 ghost use Rattle.table.specs.Views.{answered};
 ghost use Rattle.table_state.specs.Buffers.{buffer};
 ghost use Rattle.table_commits.specs.Filling.{HasWritten, IsBuffer};
-ghost use Rattle.table_state.specs.Promises.{Acts, ActsFrom, HasCause, StaysClosed, IsSure, ClosesInDoubt};
+ghost use Rattle.table_state.specs.Promises.{Acts, ActsFrom, HasCause, StaysClosed, IsSure, ClosesInDoubt, TouchesTable};
 ghost use Rattle.table_changes.specs.Removing.{Puts, HasReplaced, Replaces, ReplacesAll};
 ghost use Rattle.table_state.specs.Stands.{Stands};
 
@@ -62,6 +62,7 @@ pub fn remove<D: Disk>(store: &mut Core<D>, alloc: Global, terms: &[Vec<Term>]) 
     ensures cause { HasCause D.state store.old store.new (answered done result) }
     ensures closed { StaysClosed store.old store.new result }
     ensures doubt { ClosesInDoubt store.new result }
+    ensures touches { TouchesTable store.old store.new }
     ensures counts { (D.state store.old.vault.disk).failures ≤ (D.state store.new.vault.disk).failures }
     ensures honest { (D.state store.old.vault.disk).honest ↔ (D.state store.new.vault.disk).honest }
 {
@@ -82,6 +83,7 @@ fn remove_rows<D: Disk>(store: &mut Core<D>, alloc: Global, filter: &Filter) -> 
     ensures cause { (D.state store.old.vault.disk).honest → (s : State) (terms : Terms) → Stands D.state store.old s → s.closed ≡ false → fault s (remove terms) ≡ None → tests_of (leaves_of s.table.schema) terms ≡ Ok (tests_in filter.now)
         → is_failure (answered done result) ≡ true → HasFailed (D.state store.old.vault.disk) (D.state store.new.vault.disk) }
     ensures doubt { ClosesInDoubt store.new result }
+    ensures touches { TouchesTable store.old store.new }
     ensures counts { (D.state store.old.vault.disk).failures ≤ (D.state store.new.vault.disk).failures }
     ensures honest { (D.state store.old.vault.disk).honest ↔ (D.state store.new.vault.disk).honest }
 {

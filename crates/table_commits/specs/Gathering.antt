@@ -49,13 +49,19 @@ GathersNext S T old new (Ok true) = (left : List ValueTrees) → S left → Gath
 GathersNext S T old new (Ok false) = (left : List ValueTrees) → S left → left ≡ []
 GathersNext S T old new (Err e) = (left : List ValueTrees) → S left → e ≡ Memory
 
--- the first of these rows are gathered, and the others still stand
-pub record AreOnTheWay (S : List ValueTrees → Type 0) (g : Gathered) (rows : List ValueTrees) : Type 0 where
+-- behind the rows from before, the first of these rows are gathered, and the others still stand
+pub record AreOnTheWay (S : List ValueTrees → Type 0) (g : Gathered) (before rows : List ValueTrees) : Type 0 where
   pub taken : List ValueTrees
   pub left : List ValueTrees
   pub split : rows ≡ taken ++ left
   pub stands : S left
-  pub held : holds g taken
+  pub held : holds g (before ++ taken)
+
+-- the bytes are a file of this schema, and its rows are gathered behind those from before
+pub record GathersFile (fs : Fields) (bytes : List ℕ) (before : List ValueTrees) (g : Gathered) : Type 0 where
+  pub rows : List ValueTrees
+  pub means : FileMeans bytes fs rows
+  pub held : holds g (before ++ rows)
 
 -- the bytes are a file of these rows, which are gathered
 pub record IsReadFor (root : Root) (options : WriteOptions) (bytes : List ℕ) (g : Gathered) : Type 0 where

@@ -1,11 +1,11 @@
 //! The commit of a new version.
 
-ghost use Rattle.std.specs.Prelude.{◌≡◌, ◌⊎◌, ◌↔◌, ℕ, List, false, IsTrue};
+ghost use Rattle.std.specs.Prelude.{◌≡◌, ◌⊎◌, ◌↔◌, ℕ, List, false, IsTrue, None};
 ghost use Rattle.bits.specs.Refusals.{RefusedOnly};
 ghost use Rattle.vault.specs.Calls.{CountsOnce};
 ghost use Rattle.table.specs.Table.{Table};
 ghost use Rattle.table.specs.State.{State, Job};
-ghost use Rattle.table_state.specs.Promises.{ClosesInDoubt};
+ghost use Rattle.table_state.specs.Promises.{ClosesInDoubt, TouchesTable, TouchesTableAndJobs};
 ghost use Rattle.table_state.specs.Lookups.{jobs_left};
 ghost use Rattle.table_state.specs.Stands.{Shows};
 ghost use Rattle.table_commits.specs.Committing.{IsTurnTo, Turns};
@@ -42,6 +42,8 @@ pub(crate) fn take_turn<D: Disk>(store: &mut Core<D>, turn: Turn) -> R<()>
         → IsTurnTo (D.state store.old.vault.disk) store.old s t jobs turn → Turns D.state store.old store.new s t jobs result }
     ensures which { RefusedOnly (λ e. (e ≡ Refusal.Device) ⊎ (e ≡ Refusal.InDoubt)) result }
     ensures doubt { ClosesInDoubt store.new result }
+    ensures touches { TouchesTableAndJobs store.old store.new }
+    ensures alone { turn.job ≡ None → TouchesTable store.old store.new }
     ensures counts { CountsOnce result (D.state store.old.vault.disk) (D.state store.new.vault.disk) }
     ensures reads { (D.state store.new.vault.disk).reads ≡ (D.state store.old.vault.disk).reads }
     ensures honest { (D.state store.old.vault.disk).honest ↔ (D.state store.new.vault.disk).honest }
@@ -72,6 +74,7 @@ pub(crate) fn take_turn<D: Disk>(store: &mut Core<D>, turn: Turn) -> R<()>
 /// Takes the job away that ends, if one does.
 fn end<D: Disk>(store: &mut Core<D>, job: Option<JobId>)
     ensures left { store.new.jobs.items ≡ jobs_left job store.old.jobs.items }
+    ensures none { job ≡ None → store.new ≡ store.old }
     ensures same { store.new ≡ record store.old { jobs = store.new.jobs } }
 {
     if let Some(number) = job {

@@ -13,7 +13,7 @@ ghost use Rattle.table.specs.Refusing.{is_failure};
 ghost use Rattle.table.specs.Calls.{commit, abort, done, accepted};
 ghost use Rattle.table.specs.Views.{answered};
 ghost use Rattle.table_state.specs.Stands.{Stands};
-ghost use Rattle.table_state.specs.Promises.{Acts, ActsFrom, HasCause, StaysClosed, ClosesInDoubt};
+ghost use Rattle.table_state.specs.Promises.{Acts, ActsFrom, HasCause, StaysClosed, ClosesInDoubt, TouchesJobs, TouchesTableAndJobs};
 
 use crate::append_work::{waiting_rows, written_with};
 use crate::rewritten::commit_rewrite;
@@ -39,6 +39,7 @@ pub fn commit<D: Disk>(store: &mut Core<D>, alloc: Global, job: JobId) -> R<u64>
     ensures cause { HasCause D.state store.old store.new (answered done result) }
     ensures closed { StaysClosed store.old store.new result }
     ensures doubt { ClosesInDoubt store.new result }
+    ensures touches { TouchesTableAndJobs store.old store.new }
     ensures counts { (D.state store.old.vault.disk).failures ≤ (D.state store.new.vault.disk).failures }
     ensures honest { (D.state store.old.vault.disk).honest ↔ (D.state store.new.vault.disk).honest }
 {
@@ -70,6 +71,7 @@ fn commit_append<D: Disk>(store: &mut Core<D>, alloc: Global, job: JobId) -> R<u
     ensures cause { (D.state store.old.vault.disk).honest → (s : State) → Stands D.state store.old s → s.closed ≡ false → fault s (commit job) ≡ None → finds_append (job_at job store.old.jobs.items) ≡ true
         → finds_nothing (job_at job store.old.jobs.items) ≡ false → is_failure (answered done result) ≡ true → HasFailed (D.state store.old.vault.disk) (D.state store.new.vault.disk) }
     ensures doubt { ClosesInDoubt store.new result }
+    ensures touches { TouchesTableAndJobs store.old store.new }
     ensures counts { (D.state store.old.vault.disk).failures ≤ (D.state store.new.vault.disk).failures }
     ensures honest { (D.state store.old.vault.disk).honest ↔ (D.state store.new.vault.disk).honest }
 {
@@ -106,6 +108,7 @@ pub fn abort<D: Disk>(store: &mut Core<D>, alloc: Global, job: JobId) -> R<()>
     ensures acts { Acts D.state store.old store.new (abort job) (answered (λ _. accepted) result) }
     ensures cause { HasCause D.state store.old store.new (answered (λ _. accepted) result) }
     ensures closed { StaysClosed store.old store.new result }
+    ensures touches { TouchesJobs store.old store.new }
     ensures counts { (D.state store.old.vault.disk).failures ≤ (D.state store.new.vault.disk).failures }
     ensures honest { (D.state store.old.vault.disk).honest ↔ (D.state store.new.vault.disk).honest }
 {

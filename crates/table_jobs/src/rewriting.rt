@@ -10,7 +10,7 @@ ghost use Rattle.table.specs.Refusing.{is_failure};
 ghost use Rattle.table.specs.Calls.{begin_rewrite, step_rewrite, job, more};
 ghost use Rattle.table.specs.Views.{answered};
 ghost use Rattle.table_state.specs.Stands.{Stands};
-ghost use Rattle.table_state.specs.Promises.{Acts, ActsFrom, HasCause, StaysClosed};
+ghost use Rattle.table_state.specs.Promises.{Acts, ActsFrom, HasCause, StaysClosed, TouchesJobs};
 
 use crate::reading_on::push_read;
 use bits::{R, Refusal};
@@ -30,6 +30,7 @@ pub fn begin_rewrite<D: Disk>(store: &mut Core<D>, alloc: Global, numbers: &[u64
     ensures acts { Acts D.state store.old store.new (begin_rewrite numbers.now) (answered job result) }
     ensures cause { HasCause D.state store.old store.new (answered job result) }
     ensures closed { StaysClosed store.old store.new result }
+    ensures touches { TouchesJobs store.old store.new }
     ensures counts { (D.state store.old.vault.disk).failures ≤ (D.state store.new.vault.disk).failures }
     ensures honest { (D.state store.old.vault.disk).honest ↔ (D.state store.new.vault.disk).honest }
 {
@@ -61,6 +62,7 @@ pub fn step_rewrite<D: Disk>(store: &mut Core<D>, alloc: Global, job: JobId) -> 
     ensures acts { Acts D.state store.old store.new (step_rewrite job) (answered more result) }
     ensures cause { HasCause D.state store.old store.new (answered more result) }
     ensures closed { StaysClosed store.old store.new result }
+    ensures touches { TouchesJobs store.old store.new }
     ensures counts { (D.state store.old.vault.disk).failures ≤ (D.state store.new.vault.disk).failures }
     ensures honest { (D.state store.old.vault.disk).honest ↔ (D.state store.new.vault.disk).honest }
 {
@@ -82,6 +84,7 @@ fn read_source<D: Disk>(store: &mut Core<D>, alloc: Global, job: JobId) -> R<boo
         → ActsFrom D.state store.old store.new (step_rewrite job) (answered more result) s }
     ensures cause { (D.state store.old.vault.disk).honest → (s : State) → Stands D.state store.old s → s.closed ≡ false → fault s (step_rewrite job) ≡ None
         → is_failure (answered more result) ≡ true → HasFailed (D.state store.old.vault.disk) (D.state store.new.vault.disk) }
+    ensures touches { TouchesJobs store.old store.new }
     ensures counts { (D.state store.old.vault.disk).failures ≤ (D.state store.new.vault.disk).failures }
     ensures honest { (D.state store.old.vault.disk).honest ↔ (D.state store.new.vault.disk).honest }
 {

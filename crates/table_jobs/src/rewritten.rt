@@ -18,7 +18,7 @@ ghost use Rattle.table.specs.Views.{answered};
 ghost use Rattle.table_state.specs.declared.jobs.Rewriting.{Rewriting};
 ghost use Rattle.table_state.specs.Lookups.{job_at};
 ghost use Rattle.table_state.specs.Stands.{Stands};
-ghost use Rattle.table_state.specs.Promises.{ActsFrom, IsSure, ClosesInDoubt};
+ghost use Rattle.table_state.specs.Promises.{ActsFrom, IsSure, ClosesInDoubt, TouchesTableAndJobs};
 ghost use Rattle.table_commits.specs.Filling.{HasWritten};
 ghost use Rattle.table_jobs.specs.Rewritten.{IsRewriteAt, AreSources, AreRuns, IsRunIn, RewritesOne, RewritesAll};
 
@@ -42,6 +42,7 @@ pub(crate) fn commit_rewrite<D: Disk>(store: &mut Core<D>, alloc: Global, job: J
     ensures cause { (D.state store.old.vault.disk).honest → (s : State) (r : Rewriting) → Stands D.state store.old s → s.closed ≡ false → s.next_group < 2 ^ 63 → IsRewriteAt job store.old.jobs.items r → r.runs.items ≢ []
         → is_failure (answered done result) ≡ true → HasFailed (D.state store.old.vault.disk) (D.state store.new.vault.disk) }
     ensures doubt { ClosesInDoubt store.new result }
+    ensures touches { TouchesTableAndJobs store.old store.new }
     ensures counts { (D.state store.old.vault.disk).failures ≤ (D.state store.new.vault.disk).failures }
     ensures honest { (D.state store.old.vault.disk).honest ↔ (D.state store.new.vault.disk).honest }
 {
@@ -59,6 +60,7 @@ fn end_stale<D: Disk>(store: &mut Core<D>, alloc: Global, job: JobId) -> R<u64>
         → ActsFrom D.state store.old store.new (commit job) (answered done result) s }
     ensures cause { is_failure (answered done result) ≡ false }
     ensures sure { IsSure result }
+    ensures touches { TouchesTableAndJobs store.old store.new }
     ensures counts { (D.state store.old.vault.disk).failures ≤ (D.state store.new.vault.disk).failures }
     ensures honest { (D.state store.old.vault.disk).honest ↔ (D.state store.new.vault.disk).honest }
 {
@@ -76,6 +78,7 @@ fn commit_runs<D: Disk>(store: &mut Core<D>, alloc: Global, job: JobId, runs: &[
     ensures cause { (D.state store.old.vault.disk).honest → (s : State) (r : Rewriting) → Stands D.state store.old s → s.closed ≡ false → IsRewriteAt job store.old.jobs.items r → r.runs.items ≢ [] → sources_view runs.now ≡ sources_view r.runs.items
         → fault s (commit job) ≡ None → is_failure (answered done result) ≡ true → HasFailed (D.state store.old.vault.disk) (D.state store.new.vault.disk) }
     ensures doubt { ClosesInDoubt store.new result }
+    ensures touches { TouchesTableAndJobs store.old store.new }
     ensures counts { (D.state store.old.vault.disk).failures ≤ (D.state store.new.vault.disk).failures }
     ensures honest { (D.state store.old.vault.disk).honest ↔ (D.state store.new.vault.disk).honest }
 {

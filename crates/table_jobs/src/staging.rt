@@ -1,6 +1,6 @@
 //! Appends that are staged.
 
-ghost use Rattle.std.specs.Prelude.{◌≡◌, ◌≤◌, ◌↔◌, true, false, None};
+ghost use Rattle.std.specs.Prelude.{◌≡◌, ◌≤◌, ◌↔◌, true, false, None, OnErr};
 ghost use Rattle.vault.specs.Calls.{HasFailed};
 ghost use Rattle.table_state.specs.Lookups.{job_at};
 ghost use Rattle.table_jobs.specs.Staging.{is_append, finds_append};
@@ -11,7 +11,7 @@ ghost use Rattle.table_state.specs.Stands.{Stands};
 ghost use Rattle.schema.specs.Views.{rows_view};
 ghost use Rattle.table.specs.Calls.{begin_append, stage, job, accepted};
 ghost use Rattle.table.specs.Views.{answered};
-ghost use Rattle.table_state.specs.Promises.{Acts, ActsFrom, HasCause, StaysClosed};
+ghost use Rattle.table_state.specs.Promises.{Acts, ActsFrom, HasCause, StaysClosed, TouchesJobs};
 
 use crate::append_work::{put_work, waiting_rows, written_with};
 use bits::{R, Refusal};
@@ -29,6 +29,7 @@ pub fn begin_append<D: Disk>(store: &mut Core<D>, alloc: Global) -> R<JobId>
     ensures acts { Acts D.state store.old store.new begin_append (answered job result) }
     ensures cause { HasCause D.state store.old store.new (answered job result) }
     ensures closed { StaysClosed store.old store.new result }
+    ensures touches { TouchesJobs store.old store.new }
     ensures counts { (D.state store.old.vault.disk).failures ≤ (D.state store.new.vault.disk).failures }
     ensures honest { (D.state store.old.vault.disk).honest ↔ (D.state store.new.vault.disk).honest }
 {
@@ -55,6 +56,8 @@ pub fn stage<D: Disk>(store: &mut Core<D>, alloc: Global, job: JobId, rows: &[Ro
     ensures acts { Acts D.state store.old store.new (stage job (rows_view rows.now)) (answered (λ _. accepted) result) }
     ensures cause { HasCause D.state store.old store.new (answered (λ _. accepted) result) }
     ensures closed { StaysClosed store.old store.new result }
+    ensures unstaged { OnErr result (store.new.jobs ≡ store.old.jobs) }
+    ensures touches { TouchesJobs store.old store.new }
     ensures counts { (D.state store.old.vault.disk).failures ≤ (D.state store.new.vault.disk).failures }
     ensures honest { (D.state store.old.vault.disk).honest ↔ (D.state store.new.vault.disk).honest }
 {
@@ -79,6 +82,8 @@ fn stage_rows<D: Disk>(store: &mut Core<D>, alloc: Global, job: JobId, rows: &[R
         → ActsFrom D.state store.old store.new (stage job (rows_view rows.now)) (answered (λ _. accepted) result) s }
     ensures cause { (D.state store.old.vault.disk).honest → (s : State) → Stands D.state store.old s → s.closed ≡ false → fault s (stage job (rows_view rows.now)) ≡ None
         → is_failure (answered (λ _. accepted) result) ≡ true → HasFailed (D.state store.old.vault.disk) (D.state store.new.vault.disk) }
+    ensures unstaged { OnErr result (store.new.jobs ≡ store.old.jobs) }
+    ensures touches { TouchesJobs store.old store.new }
     ensures counts { (D.state store.old.vault.disk).failures ≤ (D.state store.new.vault.disk).failures }
     ensures honest { (D.state store.old.vault.disk).honest ↔ (D.state store.new.vault.disk).honest }
 {

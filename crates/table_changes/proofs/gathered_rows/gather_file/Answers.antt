@@ -1,51 +1,45 @@
-use Rattle.std.proofs.Common.{◌≡◌, Bool, Ok, sym, ap, subst}
+use Rattle.std.proofs.Common.{◌≡◌, ◌∙◌, refl, sym, subst, inl, inr}
+use Rattle.std.proofs.lemmas.Bool.{false≢true}
+use Rattle.bits.specs.declared.refusal.Refusal.{Refusal}
 use Rattle.bits.specs.declared.refusal.Refusal.TheVariants.{Memory}
-use Rattle.bits.specs.Refusals.{HasCause}
+use Rattle.bits.specs.Refusals.{IsFault}
 use Rattle.bits.proofs.Passing.{passes}
 use Rattle.schema.specs.Shape.{Fields}
-use Rattle.schema.specs.Fits.{RowsFit}
-use Rattle.footer.specs.Left.{rows_stand}
-use Rattle.gather.specs.declared.gathered.Gathered.{Gathered}
-use Rattle.gather.specs.GatheredRows.{holds}
-use Rattle.table_commits.specs.Gathering.{GathersNext}
-use Rattle.table_changes.proofs.RowsGathered.{kept_table, none_yet, one_more, all_there}
+use Rattle.footer.specs.File.{FileMeans}
+use Rattle.gather.specs.GatheredRows.{schema_of}
+use Rattle.table_commits.specs.Gathering.{IsNotRead}
+use Rattle.table_changes.proofs.RowsGathered.{is_memory}
+use Rattle.table_changes.proofs.ImportEnds.{file_fits}
 use Rattle.table_changes.proofs.gathered_rows.gather_file.Goals as goal
 
-pub rows-init : goal.rows-init
-rows-init c = record {
-  held = λ rows has fit. none_yet (rows_stand c.rows-rows.result) c.in_ok-gathered.gathered rows (c.rows-rows.ensures rows has) c.in_ok-gathered.ensures.begins;
-  some = λ rows has. (rows, c.rows-rows.ensures rows has);
-  table = c.in_ok-gathered.ensures.table;
-}
+pub returns-in_err-file-clause-which : goal.returns-in_err-file-clause-which
+returns-in_err-file-clause-which c =
+    passes (IsNotRead (schema_of c.args.gathered.now) c.args.bytes.now) c.from_residual.result c.in_err-file.field-0.0 c.from_residual.ensures.1 (inl (c.in_err-file.ensures.which, c.in_err-file.ensures.only))
 
-pub rows-preserved : goal.rows-preserved
-rows-preserved c =
-    let so_far = c.rows.invariant in
-    let S = rows_stand c.rows.rows in
-    let T = rows_stand c.gather_next.new.rows in
-    let new = c.gather_next.new.gathered in
-    let next = subst (λ (b : Bool). GathersNext S T c.rows.gathered new (Ok b)) c.if-not-branch.false c.in_ok-gather_next.ensures.takes in
-    record {
-      held = λ rows has fit. one_more S T c.rows.gathered new rows (subst (λ (fs : Fields). RowsFit fs rows) (sym so_far.table.schema) fit) next (so_far.held rows has fit);
-      some = λ rows has. let here = so_far.some rows has in let n = next here.0 here.1 in (n.rest, n.stands);
-      table = kept_table so_far.table c.in_ok-gather_next.ensures.table;
-    }
+pub returns-then-not-same_schema-clause-which : goal.returns-then-not-same_schema-clause-which
+returns-then-not-same_schema-clause-which c =
+    inr (inl (refl, λ rows means. false≢true (sym c.if-not-same_schema.true ∙ c.same_schema.ensures.1 (c.schema.ensures ∙ sym (c.in_ok-file.ensures.alone (schema_of c.args.gathered.now) rows means).0 ∙ sym c.schema-2.ensures))))
 
-pub returns-then-not-branch-clause-held : goal.returns-then-not-branch-clause-held
-returns-then-not-branch-clause-held c = λ rows has fit.
-    let so_far = c.rows.invariant in
-    let S = rows_stand c.rows.rows in
-    let T = rows_stand c.gather_next.new.rows in
-    let next = subst (λ (b : Bool). GathersNext S T c.rows.gathered c.gather_next.new.gathered (Ok b)) c.if-not-branch.true c.in_ok-gather_next.ensures.takes in
-    let way = so_far.held rows has fit in
-    subst (λ (g : Gathered). holds g rows) (sym (c.in_ok-gather_next.ensures.same (ap Ok c.if-not-branch.true))) (all_there S c.rows.gathered rows way (next way.left way.stands))
+-- the rows of the file are accepted, so that only memory can run out
+pub returns-in_err-gather_accepted-clause-which : goal.returns-in_err-gather_accepted-clause-which
+returns-in_err-gather_accepted-clause-which c =
+    let read = c.in_ok-file.ensures.stands in
+    let e = c.in_err-gather_accepted.field-0.0 in
+    passes (IsNotRead (schema_of c.args.gathered.now) c.args.bytes.now) c.from_residual-in_err-gather_accepted.result e c.from_residual-in_err-gather_accepted.ensures.1
+    (inr (inr (is_memory e (c.in_err-gather_accepted.ensures.only read.0 read.2))))
 
-pub returns-then-not-branch-clause-table : goal.returns-then-not-branch-clause-table
-returns-then-not-branch-clause-table c = kept_table c.rows.invariant.table c.in_ok-gather_next.ensures.table
+pub returns-in_err-gather_accepted-clause-same : goal.returns-in_err-gather_accepted-clause-same
+returns-in_err-gather_accepted-clause-same c =
+    let read = c.in_ok-file.ensures.stands in
+    let e = c.in_err-gather_accepted.field-0.0 in
+    let memory : e ≡ Memory = is_memory e (c.in_err-gather_accepted.ensures.only read.0 read.2) in
+    passes (λ (f : Refusal). IsFault f → c.gather_accepted.new.gathered ≡ c.args.gathered.now) c.from_residual-in_err-gather_accepted.result e c.from_residual-in_err-gather_accepted.ensures.1
+    (λ fault. absurd (subst IsFault memory fault))
 
-pub returns-in_err-gather_next-clause-only : goal.returns-in_err-gather_next-clause-only
-returns-in_err-gather_next-clause-only c = λ rows has.
-    let here = c.rows.invariant.some rows has in
-    let e = c.in_err-gather_next.field-0.0 in
-    let memory : e ≡ Memory = c.in_err-gather_next.ensures.takes here.0 here.1 in
-    passes (HasCause (λ _. ⊥)) c.from_residual-in_err-gather_next.result e c.from_residual-in_err-gather_next.ensures.1 (subst (HasCause (λ _. ⊥)) (sym memory) tt)
+pub returns-clause-read : goal.returns-clause-read
+returns-clause-read c = λ before held.
+    let fs = schema_of c.args.gathered.now in
+    let read = c.in_ok-file.ensures.stands in
+    let here = sym c.schema.ensures ∙ c.same_schema.ensures.0 c.if-not-same_schema.false ∙ c.schema-2.ensures in
+    let means = subst (λ (gs : Fields). FileMeans c.args.bytes.now gs read.0) here read.1 in
+    record { rows = read.0; means = means; held = c.in_ok-gather_accepted.ensures.held before read.0 held read.2 (file_fits c.args.bytes.now fs read.0 means) }
