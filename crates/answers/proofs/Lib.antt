@@ -1,6 +1,6 @@
 mod Called
 pub mod Answered
-pub mod OneByOne
+mod OneByOne
 mod Wanted
 mod Selected
 mod FirstOf
@@ -8,7 +8,7 @@ mod Batched
 pub mod OkThen
 mod GatheredLines
 mod Counted
-pub mod UnlessThere
+mod UnlessThere
 mod Renewed
 mod PartsGiven
 mod FilesOfQuery
@@ -16,3 +16,4 @@ mod ToldColumns
 mod Restyled
 pub mod FirstKept
 mod RowsAppended
+mod FilesGathered

@@ -6,6 +6,7 @@ pub mod First
 pub mod QueryFile
 pub mod Renewing
 pub mod Unless
+pub mod Importing
 pub mod Appending
 pub mod Kept
 pub mod inner

@@ -2,3 +2,4 @@ pub mod Batches
 pub mod Fetched
 pub mod Gathering
 pub mod Parts
+pub mod GatheredFiles

@@ -6,9 +6,9 @@
 
 mod appending;
 mod changing;
-mod comparing;
 mod first_rows;
 mod group_columns;
+mod importing;
 mod kept_style;
 mod part_writer;
 mod printing;
@@ -22,9 +22,9 @@ mod writing_query;
 
 pub use appending::append_rows;
 pub use changing::{add_column, remove_rows, rewrite_groups, rewrite_small, without_root};
-pub use comparing::same_schema;
 pub use first_rows::print_first_rows;
 pub use group_columns::print_groups_and_columns;
+pub use importing::{import_files, import_files_unless};
 pub use kept_style::keep_style;
 pub use printing::{print_done, write_text};
 pub use querying::{print_count, print_groups, print_rows, print_schema, print_schema_of};

@@ -3,8 +3,7 @@
 use crate::refusals::refusal_of;
 use crate::screen::Screen;
 use bits::R;
-use commands::Folders;
-use memory_places::Tree;
+use memory_places::{Folders, Tree};
 use places::HostPlaces;
 use program::{HostPaths, Terminals, work};
 use std::fs::{self, File};

@@ -1,21 +1,20 @@
 //! Which reason a refusal has, found after it: nothing here decides what is refused.
 
-use crate::import_reason::import_reason;
+use crate::import_reason::{difference, import_reason};
 use crate::key_reason::keys_reason;
 use crate::line_notes::RowNotes;
 use crate::part_reason::is_of_bytes;
-use answers::{same_schema, text_of};
 use bits::{R, Refusal};
 use dataset_words::{Change, Question};
-use disk::Disk;
+use footer::WriteOptions;
 use manifest::Manifest;
 use places::Reason;
 use reasons::{
     Cause, call_fault, column_fault, filter_fault, options_fault, schema_fault, utf8_fault,
 };
 use schema::Schema;
+use simdutf8::basic::from_utf8;
 use std::alloc::Global;
-use store::Store;
 
 /// A text of rows with fewer bytes has no column of 16,777,216 entries: each takes two bytes at least. Nor has it the values of
 /// a part file of 2 GiB.
@@ -56,7 +55,7 @@ pub fn filter_text_reason(alloc: Global, path: &str, bytes: &[u8]) -> R<Option<R
 
 /// What is wrong with the schema of a file, if something is. The file's name is put before it later.
 pub fn schema_reason(alloc: Global, bytes: &[u8]) -> R<Option<Reason>> {
-    let Ok(text) = text_of(bytes) else {
+    let Ok(text) = from_utf8(bytes) else {
         return no_text_reason(alloc, bytes);
     };
     let fault = schema_fault(alloc, "", text)?;
@@ -65,17 +64,17 @@ pub fn schema_reason(alloc: Global, bytes: &[u8]) -> R<Option<Reason>> {
 
 /// What is wrong with the column of a file that is to be added to a table of this schema, if something is.
 fn column_reason(alloc: Global, schema: &Schema, bytes: &[u8]) -> R<Option<Reason>> {
-    let Ok(text) = text_of(bytes) else {
+    let Ok(text) = from_utf8(bytes) else {
         return no_text_reason(alloc, bytes);
     };
     let fault = column_fault(alloc, schema, "", text)?;
     Ok(fault.map(|fault| Reason::Text(fault)))
 }
 
-/// Why a question is refused, where there is more to say than the refusal.
-pub fn question_reason<D: Disk>(
+/// Why a question of a table of this schema is refused, where there is more to say than the refusal.
+pub fn question_reason(
     alloc: Global,
-    store: &Store<D>,
+    schema: &Schema,
     question: &Question<'_>,
     texts: bool,
     refusal: &Refusal,
@@ -89,20 +88,22 @@ pub fn question_reason<D: Disk>(
             columns,
             ..
         } => {
-            match filter_reason(alloc, store.schema(), *filter, texts)? {
+            match filter_reason(alloc, schema, *filter, texts)? {
                 Some(reason) => Ok(Some(reason)),
-                None => columns_reason(alloc, store.schema(), columns.as_slice()),
+                None => columns_reason(alloc, schema, columns.as_slice()),
             }
         }
-        Question::Count { filter } => filter_reason(alloc, store.schema(), *filter, texts),
+        Question::Count { filter } => filter_reason(alloc, schema, *filter, texts),
         _ => Ok(None),
     }
 }
 
-/// Why a change is refused, where there is more to say than the refusal; the bytes are those of the file that it names.
-pub fn change_reason<D: Disk>(
+/// Why a change of a table is refused, whose files are written by these options, where there is more to say than the refusal; the
+/// bytes are those of the file that the change names.
+pub fn change_reason(
     alloc: Global,
-    store: &Store<D>,
+    table: &Manifest,
+    options: &WriteOptions,
     change: &Change<'_>,
     bytes: &[u8],
     texts: bool,
@@ -111,44 +112,41 @@ pub fn change_reason<D: Disk>(
     if *refusal == Refusal::InDoubt {
         return Ok(Some(Reason::InDoubt(shown_by(change))));
     }
-    if let Some(reason) = unless_reason(alloc, store.schema(), change, texts)? {
+    if let Some(reason) = unless_reason(alloc, table.schema(), change, texts)? {
         return Ok(Some(reason));
     }
     match change {
-        Change::AddColumn { .. } => match column_reason(alloc, store.schema(), bytes)? {
-            None if *refusal == Refusal::Limit && store.schema().leaves().len() < MOST_COLUMNS =>
-                full_root(alloc, store),
+        Change::AddColumn { .. } => match column_reason(alloc, table.schema(), bytes)? {
+            None if *refusal == Refusal::Limit && table.schema().leaves().len() < MOST_COLUMNS =>
+                full_root(alloc, table, options),
             reason => Ok(reason),
         },
         Change::Import { .. } => {
-            import_reason(alloc, store.schema(), store.keys(), bytes, refusal)
+            import_reason(alloc, table.schema(), table.keys(), bytes, refusal)
         }
         Change::Remove { filter } if !is_of_parts(refusal) => {
-            filter_reason(alloc, store.schema(), Some(filter), texts)
+            filter_reason(alloc, table.schema(), Some(filter), texts)
         }
         Change::RemoveGroups { numbers } | Change::Rewrite { numbers }
-            if *refusal == Refusal::NoGroup => Ok(group_reason(
-            store.manifest(),
-            numbers.as_slice(),
-        )),
+            if *refusal == Refusal::NoGroup => Ok(group_reason(table, numbers.as_slice())),
         _ => Ok(None),
     }
 }
 
-/// Why a script is refused: its first line that is no call, and what is wrong in it.
-pub fn script_reason<D: Disk>(
+/// Why a script over a table of this schema is refused: its first line that is no call, and what is wrong in it.
+pub fn script_reason(
     alloc: Global,
-    store: &Store<D>,
+    schema: &Schema,
     bytes: &[u8],
     texts: bool,
     refusal: &Refusal,
 ) -> Option<Reason> {
-    let Ok(text) = text_of(bytes) else {
+    let Ok(text) = from_utf8(bytes) else {
         return no_text_reason(alloc, bytes).unwrap_or(None);
     };
     match refusal {
         Refusal::Script | Refusal::RowShape => {
-            let fault = call_fault(alloc, store.schema(), "", text, texts).unwrap_or(None);
+            let fault = call_fault(alloc, schema, "", text, texts).unwrap_or(None);
             fault.map(|fault| Reason::Text(fault))
         }
         _ => None,
@@ -184,10 +182,12 @@ fn shown_by(change: &Change<'_>) -> &'static str {
     }
 }
 
-/// Why rows that were gathered are not appended, unless some row satisfies a filter, where there is more to say than the refusal.
-pub fn append_reason<D: Disk>(
+/// Why rows that were gathered are not appended to a table, whose files are written by these options, unless some row satisfies a
+/// filter, where there is more to say than the refusal.
+pub fn append_reason(
     alloc: Global,
-    store: &Store<D>,
+    table: &Manifest,
+    options: &WriteOptions,
     rows: RowNotes<'_>,
     unless: Option<&str>,
     texts: bool,
@@ -196,18 +196,19 @@ pub fn append_reason<D: Disk>(
     if *refusal == Refusal::InDoubt {
         return Ok(Some(Reason::InDoubt("count")));
     }
-    if let Some(reason) = filter_reason(alloc, store.schema(), unless, texts)? {
+    if let Some(reason) = filter_reason(alloc, table.schema(), unless, texts)? {
         return Ok(Some(reason));
     }
     let RowNotes { schema, lines, key } = rows;
     let is_small = lines.bytes() < SMALL_TEXT;
     match refusal {
-        Refusal::Schema if unless.is_none() || !same_schema(schema, store.schema()) => {
-            Ok(Some(Reason::OtherTable))
+        Refusal::Schema => {
+            let is_other = unless.is_none() || difference(alloc, table.schema(), schema)?.is_some();
+            Ok(is_other.then_some(Reason::OtherTable))
         }
         Refusal::Key => Ok(key),
         Refusal::Limit => match lines.large() {
-            None if is_small => full_root(alloc, store),
+            None if is_small => full_root(alloc, table, options),
             reason => Ok(reason),
         },
         _ => Ok(None),
@@ -215,13 +216,12 @@ pub fn append_reason<D: Disk>(
 }
 
 /// That the root would be too long, where the options of how files are written are not at fault.
-fn full_root<D: Disk>(alloc: Global, store: &Store<D>) -> R<Option<Reason>> {
-    let options = store.options();
+fn full_root(alloc: Global, table: &Manifest, options: &WriteOptions) -> R<Option<Reason>> {
     let fault = options_fault(options.group_rows, options.page_rows, options.page_version);
     if fault.is_some() || options.page_rows < FEW_PAGES {
         return Ok(None);
     }
-    let root = store.manifest().to_bytes(alloc)?;
+    let root = table.to_bytes(alloc)?;
     Ok(Some(Reason::FullRoot(root.len())))
 }
 

@@ -49,8 +49,8 @@ fn schema_reason(alloc: Global, schema: &Schema, bytes: &[u8]) -> R<Option<Reaso
     Ok(difference.map(|it| Reason::Columns(it)))
 }
 
-/// The first column in which a file is not as the table, if there is one.
-fn difference(alloc: Global, table: &Schema, file: &Schema) -> R<Option<Difference>> {
+/// The first column in which a file, or what was gathered, is not as the table, if there is one.
+pub(crate) fn difference(alloc: Global, table: &Schema, file: &Schema) -> R<Option<Difference>> {
     let count = table.fields().len().max(file.fields().len());
     for place in 0..count {
         let of_table = column_text(alloc, table, place)?;

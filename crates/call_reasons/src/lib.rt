@@ -1,5 +1,5 @@
 //! Why a call on a dataset is refused: what there is to say beside the refusal is looked for after it, in the bytes that were read
-//! and in the store. It is a [`Reason`](places::Reason). Nothing here decides what is refused.
+//! and in the table. It is a [`Reason`](places::Reason). Nothing here decides what is refused.
 #![tactic(auto)]
 
 mod column_text;

@@ -12,7 +12,7 @@ use Rattle.bits.specs.Refusals.{HasCause}
 use Rattle.disk.specs.State.{State as DiskState}
 use Rattle.dataset_words.specs.declared.call.Call.{Call}
 use Rattle.commands.specs.Tasks.{lent_texts}
-use Rattle.commands.specs.Importing.{files_view}
+use Rattle.answers.specs.Importing.{files_view}
 use Rattle.places.specs.Places.{Known, StaysKnown, IsKeptFrom, AreKeptAmong, AreFilesAt}
 use Rattle.commands.specs.Calls.{OnFolder, OnFiles, read, unread, named_paths}
 use Rattle.places.proofs.PlacesKept.{by_cause}

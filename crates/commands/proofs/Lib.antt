@@ -2,7 +2,6 @@ mod Told
 mod RowsGathered
 mod Stopped
 mod FilesGiven
-mod StagedFiles
 mod TasksMade
 mod CallMade
 mod FilesRead

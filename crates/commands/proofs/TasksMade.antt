@@ -13,7 +13,7 @@ use Rattle.table.specs.Deciding.{Filter}
 use Rattle.table.specs.State.{State}
 use Rattle.table.specs.Views.{names_view}
 use Rattle.table_state.specs.declared.standing.Core.{Core}
-use Rattle.commands.specs.Importing.{files_view}
+use Rattle.answers.specs.Importing.{files_view}
 use Rattle.answers.specs.Making.{RunsScript, RunsScriptFrom, ran, not_run}
 use Rattle.answers.specs.Querying.{Reads, read, not_read}
 use Rattle.commands.specs.Stopping.{RunsToRefusal, RunsToRefusalFrom, ran_to, not_ran}

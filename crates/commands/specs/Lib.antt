@@ -1,5 +1,4 @@
 pub mod RowLines
-pub mod Importing
 pub mod Stopping
 pub mod Tasks
 pub mod Opening

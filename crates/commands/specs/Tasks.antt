@@ -34,7 +34,7 @@ use Rattle.answers.specs.GroupColumns.{ListsColumns}
 use Rattle.answers.specs.First.{first_lines}
 use Rattle.answers.specs.QueryFile.{GotQueryFiles}
 use Rattle.answers.specs.Kept.{IsRestyled, StaysOpened}
-use Rattle.commands.specs.Importing.{ImportsFiles, ImportsUnless}
+use Rattle.answers.specs.Importing.{ImportsFiles, ImportsUnless}
 use Rattle.answers.specs.Renewing.{RewritesAllGroups}
 use Rattle.commands.specs.Stopping.{RunsToRefusal}
 use Rattle.answers.specs.Unless.{MakesUnless, AsksImport}

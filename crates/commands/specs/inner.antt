@@ -1,4 +1,3 @@
 pub mod GatheredRows
-pub mod Staged
 pub mod LineCuts
 pub mod Brought

@@ -2,7 +2,7 @@
 
 ghost use Rattle.std.specs.Prelude.{◌≡◌, ◌≢◌, ◌∷◌, [], Some, false, length, IfOk, IfErr};
 ghost use Rattle.bits.specs.declared.refusal.Refusal.TheVariants.{Script};
-ghost use Rattle.commands.specs.Importing.{files_view};
+ghost use Rattle.answers.specs.Importing.{files_view};
 ghost use Rattle.places.specs.Places.{InFolder};
 ghost use Rattle.commands.specs.Calls.{Gives, GivesAsked, Filtered, filter_path, state_within, disk_within};
 ghost use Rattle.answers.specs.Making.{lent_text};
@@ -198,7 +198,7 @@ impl<S: Write + Clone + Drop> Making<'_, S> {
         if let Err(refusal) = &given
             && !sink.has_refused()
         {
-            *why = found(question_reason(alloc, store, question, texts, refusal));
+            *why = found(question_reason(alloc, store.schema(), question, texts, refusal));
         }
         given
     }

@@ -10,7 +10,6 @@ mod creating;
 mod filter_file;
 mod gathering;
 mod giving;
-mod importing;
 mod later_reason;
 mod line_cuts;
 mod looking;
@@ -27,7 +26,7 @@ mod texts;
 mod watched;
 mod writers;
 
-pub use importing::{import_files, import_files_unless};
+pub use answers::PART_BYTES;
 pub use looking::{Checking, print_check, print_rows_fit, print_survey};
 pub use making::Folders;
 pub use stopping::{Stop, run_script_to_refusal};

@@ -10,7 +10,7 @@ ghost use Rattle.vault.specs.Calls.{LeavesAll};
 ghost use Rattle.manifest.specs.Groups.{root_of};
 ghost use Rattle.upkeep.specs.Intact.{AreHeld};
 ghost use Rattle.jsonrows.specs.SchemaPrinted.{PrintsFields};
-ghost use Rattle.commands.specs.Importing.{files_view};
+ghost use Rattle.answers.specs.Importing.{files_view};
 ghost use Rattle.places.specs.Places.{StaysKnown, StaysBut, AreFilesAt, IsKeptFrom, AreKeptAmong, InFolder};
 ghost use Rattle.commands.specs.Calls.{MayBeOfFile, PrintsOfFile, OnFolder, OnFiles, OnFilesBy, ComesUnfiltered, ComesFiltered, CallComes};
 ghost use Rattle.commands.specs.Calls.{GivesCall, GivesNoFile, IsPassedOn};

@@ -6,7 +6,7 @@
 ghost use Rattle.std.specs.Prelude.{◌≡◌, ◌++◌, List, false, true, codes, decimal, Ok, Err, OnOk, IfErr, MatchResult};
 ghost use Rattle.std.specs.Io.KnownBytes.{Appends};
 ghost use Rattle.bits.specs.Refusals.{RefusedOnly};
-ghost use Rattle.commands.specs.Importing.{files_view};
+ghost use Rattle.answers.specs.Importing.{files_view};
 ghost use Rattle.places.specs.Places.{StaysKnown, IsKeptFrom, InFolder};
 ghost use Rattle.schema.specs.Values.{ValueTrees};
 ghost use Rattle.manifest.specs.Groups.{Root};
@@ -276,7 +276,15 @@ impl<S: Write + Clone + Drop> Making<'_, S> {
         let done = append_rows(alloc, store, unless, gathered, texts);
         store.disk_mut().clear();
         if let Err(refusal) = &done {
-            *why = found(append_reason(alloc, store, notes, unless, texts, refusal));
+            *why = found(append_reason(
+                alloc,
+                store.manifest(),
+                store.options(),
+                notes,
+                unless,
+                texts,
+                refusal,
+            ));
         }
         tell_done(done, out, why)
     }

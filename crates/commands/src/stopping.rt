@@ -165,7 +165,7 @@ pub fn run_to_refusal<D: Disk, W: Write>(
             *why = if has_run {
                 Some(Reason::Unprinted)
             } else {
-                script_reason(alloc, store, bytes, texts, &refusal)
+                script_reason(alloc, store.schema(), bytes, texts, &refusal)
             };
             Err(refusal)
         }

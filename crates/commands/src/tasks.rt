@@ -1,19 +1,18 @@
 //! What is to be done with a store, done.
 
 ghost use Rattle.std.specs.Prelude.{◌≡◌, false, slice_index_or, []};
-ghost use Rattle.commands.specs.Importing.{files_view};
+ghost use Rattle.answers.specs.Importing.{files_view};
 ghost use Rattle.answers.specs.Unless.{AsksImport};
 ghost use Rattle.answers.specs.Making.{lent_text};
 ghost use Rattle.commands.specs.Tasks.{lent_texts, columns_named, PrintsQuery, PrintsAnswer, RunsBytes};
 ghost use Rattle.commands.specs.Tasks.{AddsColumn, ImportsSeveral, ImportsAsked, MakesAsked, MakesChange, MakesInStyle};
 
-use crate::importing::{import_files, import_files_unless};
 use crate::texts::{columns_named, owned};
 use crate::writers::writer_refusal;
 use answers::{
-    add_column, import_unless, keep_style, print_count, print_first_rows, print_groups,
-    print_groups_and_columns, print_rows, print_schema, remove_rows, rewrite_all, rewrite_groups,
-    rewrite_small, run_script, text_of,
+    add_column, import_files, import_files_unless, import_unless, keep_style, print_count,
+    print_first_rows, print_groups, print_groups_and_columns, print_rows, print_schema,
+    remove_rows, rewrite_all, rewrite_groups, rewrite_small, run_script, text_of,
 };
 use bits::R;
 use call_reasons::{change_reason, question_reason, script_reason};
@@ -47,7 +46,7 @@ pub fn ask<D: Disk, W: Write, E: Write>(
 {
     let answered = answer(alloc, store, question, texts, out, err, shows);
     if let Err(refusal) = &answered {
-        *why = found(question_reason(alloc, store, question, texts, refusal));
+        *why = found(question_reason(alloc, store.schema(), question, texts, refusal));
     }
     answered
 }
@@ -122,7 +121,15 @@ pub fn make_change<D: Disk>(
     let changed = change_store(alloc, store, change, files, texts, refused);
     if let Err(refusal) = &changed {
         let bytes = bytes_at(files, refused.unwrap_or(0));
-        *why = found(change_reason(alloc, store, change, bytes, texts, refusal));
+        *why = found(change_reason(
+            alloc,
+            store.manifest(),
+            store.options(),
+            change,
+            bytes,
+            texts,
+            refusal,
+        ));
     }
     changed
 }
@@ -257,7 +264,7 @@ pub fn run<D: Disk, W: Write>(
         *why = if has_run {
             Some(Reason::Unprinted)
         } else {
-            script_reason(alloc, store, bytes, texts, refusal)
+            script_reason(alloc, store.schema(), bytes, texts, refusal)
         };
     }
     ran

@@ -16,6 +16,7 @@ mod memory_reader;
 mod tree;
 
 pub use calling::made_call;
+pub use commands::Folders;
 pub use disks::FolderDisks;
 pub use folder_disk::FolderDisk;
 pub use layout::{Layout, There};

@@ -1,9 +1,8 @@
 //! The program `pqds`: the arguments, a gathered writer and the exit code. All else is the library `program`.
 #![tactic(auto)]
 
-use answers::PART_BYTES;
 use bits::R;
-use commands::Folders;
+use commands::{Folders, PART_BYTES};
 use places::HostPlaces;
 use program::{HostPaths, OUTPUT_BUFFER_BYTES, Terminals, refusal_of, refuse, work};
 use std::env;

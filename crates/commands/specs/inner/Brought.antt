@@ -8,7 +8,7 @@ use Rattle.gather.specs.GatheredRows.{holds}
 use Rattle.table_state.specs.declared.standing.Core.{Core}
 use Rattle.table_commits.specs.Gathering.{AreGatheredFor}
 use Rattle.dataset_words.specs.declared.call.Call.{Call}
-use Rattle.commands.specs.Importing.{files_view}
+use Rattle.answers.specs.Importing.{files_view}
 use Rattle.answers.specs.Making.{lent_text}
 use Rattle.commands.specs.Calls.{ChangesStore, ChangesByRows}
 use Rattle.commands.specs.declared.watched.Watched.{Watched}

@@ -1,6 +1,6 @@
 use Rattle.std.proofs.Common.{Err, ap}
 use Rattle.vault.proofs.Chained.{refused}
-use Rattle.commands.specs.Importing.{files_view}
+use Rattle.answers.specs.Importing.{files_view}
 use Rattle.commands.specs.Tasks.{MakesInStyle, in_style, no_style}
 use Rattle.commands.proofs.tasks.change_in_style.Goals as goal
 

@@ -3,7 +3,7 @@ use Rattle.dataset_words.specs.declared.call.Change.{Change}
 use Rattle.table.specs.Calls.{remove_groups, done}
 use Rattle.table.specs.Views.{answered}
 use Rattle.table_state.specs.Promises.{Acts}
-use Rattle.commands.specs.Importing.{files_view}
+use Rattle.answers.specs.Importing.{files_view}
 use Rattle.answers.specs.Making.{Rewrites}
 use Rattle.commands.specs.Tasks.{AddsColumn, MakesChange}
 use Rattle.commands.proofs.TasksMade.{first_at}

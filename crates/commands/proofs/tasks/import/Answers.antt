@@ -1,5 +1,5 @@
 use Rattle.std.proofs.Common.{◌∙◌, ℕ, List, subst, arith}
-use Rattle.commands.specs.Importing.{files_view}
+use Rattle.answers.specs.Importing.{files_view}
 use Rattle.answers.specs.Unless.{AsksImport}
 use Rattle.answers.specs.Making.{lent_text}
 use Rattle.commands.specs.Tasks.{MakesAsked}

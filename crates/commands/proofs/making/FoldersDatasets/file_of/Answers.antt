@@ -1,6 +1,6 @@
 use Rattle.std.proofs.Common.{ap}
 use Rattle.std.proofs.lemmas.Result.{IfOk-weaker, IfErr-weaker}
-use Rattle.commands.specs.Importing.{files_view}
+use Rattle.answers.specs.Importing.{files_view}
 use Rattle.commands.proofs.FilesGiven.{one_given, not_one_given}
 use Rattle.commands.proofs.making.FoldersDatasets.file_of.Goals as goal
 

@@ -2,7 +2,7 @@ use Rattle.std.proofs.Common.{◌≡◌, ◌++◌, ◌∷◌, ◌∙◌, [], ℕ
 use Rattle.std.proofs.lemmas.List.{map_push}
 use Rattle.bits.proofs.Passing.{passes}
 use Rattle.places.specs.Places.{AreFilesAt, AreKeptAmong}
-use Rattle.commands.specs.Importing.{files_view}
+use Rattle.answers.specs.Importing.{files_view}
 use Rattle.commands.specs.Tasks.{lent_texts}
 use Rattle.places.proofs.PlacesKept.{among_before, stays_then}
 use Rattle.commands.proofs.FilesRead.{one_more_read, one_more_text, kept_at}

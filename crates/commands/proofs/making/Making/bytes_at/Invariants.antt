@@ -1,6 +1,6 @@
 use Rattle.std.proofs.Common.{take}
 use Rattle.places.specs.Places.{StaysKnown, AreFilesAt}
-use Rattle.commands.specs.Importing.{files_view}
+use Rattle.answers.specs.Importing.{files_view}
 use Rattle.commands.specs.Tasks.{lent_texts}
 use Rattle.commands.proofs.making.Making.bytes_at.Given as goal
 

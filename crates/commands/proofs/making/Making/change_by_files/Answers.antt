@@ -1,6 +1,6 @@
 use Rattle.std.proofs.Common.{◌∙◌, ℕ, List, sym, subst}
 use Rattle.dataset_words.specs.declared.call.Task.{Task}
-use Rattle.commands.specs.Importing.{files_view}
+use Rattle.answers.specs.Importing.{files_view}
 use Rattle.commands.specs.Calls.{ChangesStore, RunsCalls, state_within}
 use Rattle.commands.proofs.TasksMade.{first_at}
 use Rattle.commands.proofs.making.Making.change_by_files.Goals as goal

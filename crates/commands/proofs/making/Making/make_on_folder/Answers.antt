@@ -1,7 +1,7 @@
 use Rattle.std.proofs.Common.{◌∙◌, ℕ, List, refl, sym, subst}
 use Rattle.std.specs.Borrow.{Bor}
 use Rattle.dataset_words.specs.declared.call.Task.{Task}
-use Rattle.commands.specs.Importing.{files_view}
+use Rattle.answers.specs.Importing.{files_view}
 use Rattle.commands.specs.Looking.{LooksInFolder}
 use Rattle.commands.specs.Calls.{OnFolder, state_within, disk_within}
 use Rattle.commands.specs.Creating.{Creates}

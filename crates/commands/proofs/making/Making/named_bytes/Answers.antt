@@ -1,7 +1,7 @@
 use Rattle.std.proofs.Common.{◌∙◌, ℕ, List, IfOk, IfErr, ap, subst}
 use Rattle.bits.proofs.Passing.{passes}
 use Rattle.commands.specs.Tasks.{lent_texts}
-use Rattle.commands.specs.Importing.{files_view}
+use Rattle.answers.specs.Importing.{files_view}
 use Rattle.places.specs.Places.{AreFilesAt, AreKeptAmong}
 use Rattle.commands.specs.Calls.{named_paths}
 use Rattle.commands.proofs.FilesRead.{memory_among}

@@ -1,9 +1,9 @@
 use Rattle.std.proofs.Common.{refl}
 use Rattle.vault.proofs.Chained.{refused as passed}
-use Rattle.commands.specs.Importing.{files_view, ImportsFrom}
+use Rattle.answers.specs.Importing.{files_view, ImportsFrom}
 use Rattle.answers.specs.Unless.{UnlessFrom, not_counted}
 use Rattle.answers.proofs.UnlessThere.{then_made, none_made}
-use Rattle.commands.proofs.importing.import_files_unless.Goals as goal
+use Rattle.answers.proofs.importing.import_files_unless.Goals as goal
 
 pub returns-in_err-count : goal.returns-in_err-count
 returns-in_err-count g c = record {
