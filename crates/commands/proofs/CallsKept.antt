@@ -42,7 +42,7 @@ module _ {D : Type 0} {old mid new : Known D} (stays : StaysKnown old mid) where
   looked_before : {W : Type 0} (state : W → DiskState) (disk_in : W → D) (path : List ℕ) (texts : Bool) (look : Look) (file : List ℕ) (before after : Option (List ℕ))
       (result : Result ⊤ Refusal)
       → LooksInFolder state disk_in mid new path texts look file before after result → LooksInFolder state disk_in old new path texts look file before after result
-  looked_before state disk_in path texts look file before after result (looked in_folder) = looked (carried disk_in path _ _ result in_folder)
+  looked_before state disk_in path texts look file before after result (looked in_folder) = looked (carried stays disk_in path _ _ result in_folder)
   looked_before state disk_in path texts look file before after result (no_folder none still unprinted is) =
       no_folder ((stays.is_folder path false).1 none) (stays_then stays still) unprinted is
 
