@@ -22,4 +22,4 @@ pub use laws::{
 pub use order::{compare_keys, same_keys};
 pub use parts::{part_name, part_number, part_path, read_unsigned};
 pub use paths::{key_of, path_of};
-pub use splitting::{KeyRows, split_by_key};
+pub use splitting::{KeyRows, split_by_key, without_keys};

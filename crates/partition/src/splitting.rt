@@ -152,8 +152,8 @@ fn value_of(alloc: Global, part: &Part) -> R<Value>
     }
 }
 
-/// A copy of the row without its key columns.
-fn without_keys(alloc: Global, columns: &[KeyColumn], row: &Row) -> R<Row>
+/// A copy of the row without its key columns. Time and room are linear in what the row holds. Refused only for memory.
+pub fn without_keys(alloc: Global, columns: &[KeyColumn], row: &Row) -> R<Row>
     ensures stands { IfOk result (λ rest. row_view rest ≡ row_without_keys (key_columns_view columns.now) (row_view row.now)) }
     ensures which { RefusedMemoryOnly result }
 {

@@ -1,14 +1,15 @@
 //! Changes that are one call each.
 
-ghost use Rattle.std.specs.Prelude.{◌≤◌, ◌↔◌, ◌≡◌, List, false, Err, ◌<◌, IfOk};
+ghost use Rattle.std.specs.Prelude.{◌≤◌, ◌↔◌, ◌≡◌, List, false, Err, ◌<◌, [], IfOk, OnErr};
 ghost use Rattle.schema.specs.Views.{rows_view};
 ghost use Rattle.table.specs.Calls.{append, done, import, remove, remove_groups, add_column};
 ghost use Rattle.table.specs.Views.{answered};
-ghost use Rattle.table_state.specs.Promises.{Acts, HasCause, StaysClosed, ClosesInDoubt, TouchesTable};
+ghost use Rattle.table_state.specs.Promises.{Acts, HasCause, StaysClosed, ClosesInDoubt, LeavesTable, TouchesTable};
 ghost use Rattle.gather.specs.GatheredRows.{holds};
 ghost use Rattle.manifest.specs.Groups.{root_of};
 ghost use Rattle.table.specs.Table.{Row as TableRow};
 ghost use Rattle.table_commits.specs.Gathering.{AreGatheredFor};
+ghost use Rattle.table_commits.specs.Keeping.{Unwritten};
 ghost use Rattle.filter.specs.Terms.{terms_view};
 ghost use Rattle.schema.specs.Elements.{elements_view};
 
@@ -31,6 +32,7 @@ impl<D: Disk> Store<D> {
         ensures closed { StaysClosed self.old self.new result }
         ensures doubt { ClosesInDoubt self.new result }
         ensures unwritten { IfOk result (λ n. n ≡ 0 → self.new ≡ self.old) }
+        ensures kept { OnErr result (LeavesTable self.old self.new) }
         ensures touches { TouchesTable self.old self.new }
         ensures counts { (D.state self.old.vault.disk).failures ≤ (D.state self.new.vault.disk).failures }
         ensures honest { (D.state self.old.vault.disk).honest ↔ (D.state self.new.vault.disk).honest }
@@ -55,6 +57,7 @@ impl<D: Disk> Store<D> {
         ensures closed { StaysClosed self.old self.new result }
         ensures doubt { ClosesInDoubt self.new result }
         ensures unwritten { IfOk result (λ n. n ≡ 0 → self.new ≡ self.old) }
+        ensures kept { OnErr result (LeavesTable self.old self.new) }
         ensures touches { TouchesTable self.old self.new }
         ensures counts { (D.state self.old.vault.disk).failures ≤ (D.state self.new.vault.disk).failures }
         ensures honest { (D.state self.old.vault.disk).honest ↔ (D.state self.new.vault.disk).honest }
@@ -74,6 +77,7 @@ impl<D: Disk> Store<D> {
         ensures closed { StaysClosed self.old self.new result }
         ensures doubt { ClosesInDoubt self.new result }
         ensures unwritten { IfOk result (λ n. n ≡ 0 → self.new ≡ self.old) }
+        ensures kept { OnErr result (LeavesTable self.old self.new) }
         ensures touches { TouchesTable self.old self.new }
         ensures counts { (D.state self.old.vault.disk).failures ≤ (D.state self.new.vault.disk).failures }
         ensures honest { (D.state self.old.vault.disk).honest ↔ (D.state self.new.vault.disk).honest }
@@ -97,6 +101,8 @@ impl<D: Disk> Store<D> {
         ensures cause { HasCause D.state self.old self.new (answered done result) }
         ensures closed { StaysClosed self.old self.new result }
         ensures doubt { ClosesInDoubt self.new result }
+        ensures unwritten { IfOk result (λ n. n ≡ 0 → Unwritten D.state self.old self.new) }
+        ensures kept { OnErr result (LeavesTable self.old self.new) }
         ensures touches { TouchesTable self.old self.new }
         ensures counts { (D.state self.old.vault.disk).failures ≤ (D.state self.new.vault.disk).failures }
         ensures honest { (D.state self.old.vault.disk).honest ↔ (D.state self.new.vault.disk).honest }
@@ -113,6 +119,8 @@ impl<D: Disk> Store<D> {
         ensures cause { HasCause D.state self.old self.new (answered done result) }
         ensures closed { StaysClosed self.old self.new result }
         ensures doubt { ClosesInDoubt self.new result }
+        ensures unwritten { numbers.now ≡ [] → self.new ≡ self.old }
+        ensures kept { OnErr result (LeavesTable self.old self.new) }
         ensures touches { TouchesTable self.old self.new }
         ensures counts { (D.state self.old.vault.disk).failures ≤ (D.state self.new.vault.disk).failures }
         ensures honest { (D.state self.old.vault.disk).honest ↔ (D.state self.new.vault.disk).honest }
@@ -131,6 +139,7 @@ impl<D: Disk> Store<D> {
         ensures cause { HasCause D.state self.old self.new (answered done result) }
         ensures closed { StaysClosed self.old self.new result }
         ensures doubt { ClosesInDoubt self.new result }
+        ensures kept { OnErr result (LeavesTable self.old self.new) }
         ensures touches { TouchesTable self.old self.new }
         ensures counts { (D.state self.old.vault.disk).failures ≤ (D.state self.new.vault.disk).failures }
         ensures honest { (D.state self.old.vault.disk).honest ↔ (D.state self.new.vault.disk).honest }

@@ -1,6 +1,6 @@
 //! Reading.
 
-ghost use Rattle.std.specs.Prelude.{◌≡◌, ◌≤◌, ◌↔◌, true, [], IfOk, map, OnErr};
+ghost use Rattle.std.specs.Prelude.{◌≡◌, ◌≤◌, ◌↔◌, true, [], IfOk, map, OnOk, OnErr};
 ghost use Rattle.filter.specs.Terms.{terms_view};
 ghost use Rattle.table.specs.Calls.{Answer, query, fetch, close, cursor, accepted, ended, count, counted, groups, plan_rewrite, planned, listed};
 ghost use Rattle.table.specs.Views.{names_view, fetched_view, answered, info_view};
@@ -57,6 +57,7 @@ impl<D: Disk> Store<D> {
         ensures closed { StaysClosed self.old self.new result }
         ensures touches { TouchesCursors self.old self.new }
         ensures stays { OnErr result (self.new ≡ record self.old { vault = self.new.vault }) }
+        ensures unfailed { OnOk result ((D.state self.new.vault.disk).failures ≡ (D.state self.old.vault.disk).failures) }
         ensures counts { (D.state self.old.vault.disk).failures ≤ (D.state self.new.vault.disk).failures }
         ensures honest { (D.state self.old.vault.disk).honest ↔ (D.state self.new.vault.disk).honest }
     {
@@ -74,6 +75,7 @@ impl<D: Disk> Store<D> {
         ensures closed { StaysClosed self.old self.new result }
         ensures touches { TouchesCursors self.old self.new }
         ensures stays { OnErr result (self.new ≡ record self.old { vault = self.new.vault }) }
+        ensures unfailed { OnOk result ((D.state self.new.vault.disk).failures ≡ (D.state self.old.vault.disk).failures) }
         ensures counts { (D.state self.old.vault.disk).failures ≤ (D.state self.new.vault.disk).failures }
         ensures honest { (D.state self.old.vault.disk).honest ↔ (D.state self.new.vault.disk).honest }
     {
@@ -104,6 +106,8 @@ impl<D: Disk> Store<D> {
         ensures acts { Acts D.state self.old self.new (count (terms_view terms.now)) (answered counted result) }
         ensures cause { HasCause D.state self.old self.new (answered counted result) }
         ensures leaves { LeavesFiles D.state self.old self.new }
+        ensures touches { self.new ≡ record self.old { vault = self.new.vault } }
+        ensures unfailed { OnOk result ((D.state self.new.vault.disk).failures ≡ (D.state self.old.vault.disk).failures) }
         ensures unread { terms.now ≡ [] → (D.state self.new.vault.disk).reads ≡ (D.state self.old.vault.disk).reads }
         ensures closed { StaysClosed self.old self.new result }
         ensures counts { (D.state self.old.vault.disk).failures ≤ (D.state self.new.vault.disk).failures }

@@ -168,7 +168,7 @@ module _ {D : Type 0} (state : D → DiskState) (store : Core D) (s : State) (st
     wrote = wrote_nothing state store s stands.shows is_open
 
     pub too_much : IsRootTooHeavy root → IsOver s call
-    too_much heavy = over_root 0 grown s.next_group leads
+    too_much heavy = over_root 0 grown s.next_group leads asks.other
         (too_heavy_is_too_much disk s.next_group grown root planned.schema_is planned.keys_are stored described heavy)
 
     pub done_so : (new : Core D) → Turns {T = Unit {0}} state store new s grown (widened_jobs s.jobs) (Ok tt) → ActsFrom state store new call (done 0) s

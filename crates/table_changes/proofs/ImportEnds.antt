@@ -83,7 +83,7 @@ module _ (s : State) (bytes : List ℕ) (given : List Row) (means : Imports s by
   over_too (file other e too_long) = absurd (cc)
   over_too (group part may much) = group part (given, means, may) much
   over_too (schema elements e large) = absurd (cc)
-  over_too (root n t counter leads much) = root n t counter (leads_too n t counter leads) much
+  over_too (root n t counter leads new much) = root n t counter (leads_too n t counter leads) new much
 
   refused_too : (e : Refusal) (new : State) → IsRefused s (append given) e new → IsRefused s (import bytes) e new
   refused_too e new (checked is other same) = let c : None ≡ Some e = sym fine ∙ is in absurd (cc)

@@ -15,4 +15,5 @@ mod GroupsReplaced
 mod GroupsJudged
 mod RemovalChecks
 mod GroupsForeseen
+mod NothingWritten
 mod RootsForeseen

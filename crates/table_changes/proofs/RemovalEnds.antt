@@ -391,7 +391,7 @@ module _ {D : Type 0} (state : D → DiskState) (old : Core D) (s : State) (stan
           planned = subst (λ (hs : List FileGroup). IsPlanned disk mid (counted s mid.next_group) then_table s.jobs None (with_version old_root hs next)) same_files planned_here
 
           pub too_heavy : IsRootTooHeavy (with_version old_root gs next) → IsOver s call
-          too_heavy heavy = over_root removed.count then_table mid.next_group leads
+          too_heavy heavy = over_root removed.count then_table mid.next_group leads asks.other
               (too_heavy_is_too_much disk mid.next_group then_table (with_version old_root files next) r.written.wrote.shows.schema r.written.wrote.shows.keys stored described
               (subst (λ (hs : List FileGroup). IsRootTooHeavy (with_version old_root hs next)) (sym same_files) heavy))
 

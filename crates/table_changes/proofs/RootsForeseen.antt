@@ -274,7 +274,7 @@ module _ {D : Type 0} (state : D → DiskState) (old : Core D) (s : State) (stan
 
   -- where it weighs too much the append is refused Limit, and nothing changes
   over_with : IsRootTooMuch grown → ActsFrom state old old (append given) (refused Limit) s
-  over_with heavy = refusals_act state old old s (append given) s.next_group Limit stands is_open (wrote_nothing state old s stands.shows is_open) (refused_over refl fine (over_root (length given) grown counter leads heavy) stays)
+  over_with heavy = refusals_act state old old s (append given) s.next_group Limit stands is_open (wrote_nothing state old s stands.shows is_open) (refused_over refl fine (over_root (length given) grown counter leads (λ same. more_groups (ap (λ (t : Table). t.groups) same)) heavy) stays)
     where
       stays : Stays s (append given) (counted s s.next_group)
       stays = record { counter = s.next_group; rises = record { most = length given; work = refl; no_less = omega arith; no_more = omega arith }; is = refl }

@@ -1,10 +1,10 @@
 //! Appends in one call.
 
-ghost use Rattle.std.specs.Prelude.{◌≡◌, ◌≤◌, ◌↔◌, IfOk};
+ghost use Rattle.std.specs.Prelude.{◌≡◌, ◌≤◌, ◌↔◌, IfOk, OnErr};
 ghost use Rattle.schema.specs.Views.{rows_view};
 ghost use Rattle.table.specs.Calls.{append, done};
 ghost use Rattle.table.specs.Views.{answered};
-ghost use Rattle.table_state.specs.Promises.{Acts, HasCause, StaysClosed, ClosesInDoubt, TouchesTable};
+ghost use Rattle.table_state.specs.Promises.{Acts, HasCause, StaysClosed, ClosesInDoubt, LeavesTable, TouchesTable};
 
 use crate::appending_gathered::append_gathered;
 use crate::gathered_rows::gather_rows;
@@ -24,6 +24,7 @@ pub fn append<D: Disk>(store: &mut Core<D>, alloc: Global, rows: &[Row]) -> R<u6
     ensures closed { StaysClosed store.old store.new result }
     ensures doubt { ClosesInDoubt store.new result }
     ensures unwritten { IfOk result (λ n. n ≡ 0 → store.new ≡ store.old) }
+    ensures kept { OnErr result (LeavesTable store.old store.new) }
     ensures touches { TouchesTable store.old store.new }
     ensures counts { (D.state store.old.vault.disk).failures ≤ (D.state store.new.vault.disk).failures }
     ensures honest { (D.state store.old.vault.disk).honest ↔ (D.state store.new.vault.disk).honest }

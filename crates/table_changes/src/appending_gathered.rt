@@ -1,6 +1,6 @@
 //! Appends of rows that were gathered.
 
-ghost use Rattle.std.specs.Prelude.{◌≡◌, ◌≢◌, ◌≤◌, ◌↔◌, [], List, length, true, false, None, Err, IfOk, IsTrue};
+ghost use Rattle.std.specs.Prelude.{◌≡◌, ◌≢◌, ◌≤◌, ◌↔◌, [], List, length, true, false, None, Err, IfOk, OnErr, IsTrue};
 ghost use Rattle.schema.specs.Keys.{key_column_view, key_columns_view};
 ghost use Rattle.vault.specs.Calls.{HasFailed};
 ghost use Rattle.gather.specs.GatheredRows.{holds};
@@ -15,7 +15,7 @@ ghost use Rattle.table.specs.Checks.{fault};
 ghost use Rattle.table.specs.Refusing.{is_failure};
 ghost use Rattle.table.specs.Views.{answered};
 ghost use Rattle.table_state.specs.Stands.{Stands};
-ghost use Rattle.table_state.specs.Promises.{Acts, ActsFrom, HasCause, StaysClosed, ClosesInDoubt, IsSure, TouchesTable};
+ghost use Rattle.table_state.specs.Promises.{Acts, ActsFrom, HasCause, StaysClosed, ClosesInDoubt, IsSure, LeavesTable, TouchesTable};
 ghost use Rattle.table_commits.specs.Filling.{HasWritten, AreFine, EndsWith};
 
 use crate::comparing::same_schema;
@@ -53,6 +53,7 @@ pub fn append_gathered<D: Disk>(
     ensures closed { StaysClosed store.old store.new result }
     ensures doubt { ClosesInDoubt store.new result }
     ensures unwritten { IfOk result (λ n. n ≡ 0 → store.new ≡ store.old) }
+    ensures kept { OnErr result (LeavesTable store.old store.new) }
     ensures touches { TouchesTable store.old store.new }
     ensures counts { (D.state store.old.vault.disk).failures ≤ (D.state store.new.vault.disk).failures }
     ensures honest { (D.state store.old.vault.disk).honest ↔ (D.state store.new.vault.disk).honest }
@@ -101,6 +102,7 @@ fn append_groups<D: Disk>(
         → is_failure (answered done result) ≡ true → HasFailed (D.state store.old.vault.disk) (D.state store.new.vault.disk) }
     ensures doubt { ClosesInDoubt store.new result }
     ensures counted { IfOk result (λ n. n ≡ count) }
+    ensures kept { OnErr result (LeavesTable store.old store.new) }
     ensures touches { TouchesTable store.old store.new }
     ensures counts { (D.state store.old.vault.disk).failures ≤ (D.state store.new.vault.disk).failures }
     ensures honest { (D.state store.old.vault.disk).honest ↔ (D.state store.new.vault.disk).honest }

@@ -1,10 +1,10 @@
 //! Columns more.
 
-ghost use Rattle.std.specs.Prelude.{◌≤◌, ◌↔◌};
+ghost use Rattle.std.specs.Prelude.{◌≤◌, ◌↔◌, OnErr};
 ghost use Rattle.schema.specs.Elements.{elements_view};
 ghost use Rattle.table.specs.Calls.{add_column, done};
 ghost use Rattle.table.specs.Views.{answered};
-ghost use Rattle.table_state.specs.Promises.{Acts, HasCause, StaysClosed, ClosesInDoubt, TouchesTable};
+ghost use Rattle.table_state.specs.Promises.{Acts, HasCause, StaysClosed, ClosesInDoubt, LeavesTable, TouchesTable};
 
 use crate::widening::widened;
 use bits::{R, Refusal};
@@ -25,6 +25,7 @@ pub fn add_column<D: Disk>(store: &mut Core<D>, alloc: Global, elements: &[Eleme
     ensures cause { HasCause D.state store.old store.new (answered done result) }
     ensures closed { StaysClosed store.old store.new result }
     ensures doubt { ClosesInDoubt store.new result }
+    ensures kept { OnErr result (LeavesTable store.old store.new) }
     ensures touches { TouchesTable store.old store.new }
     ensures counts { (D.state store.old.vault.disk).failures ≤ (D.state store.new.vault.disk).failures }
     ensures honest { (D.state store.old.vault.disk).honest ↔ (D.state store.new.vault.disk).honest }

@@ -1,13 +1,13 @@
 //! The removal of groups.
 
-ghost use Rattle.std.specs.Prelude.{◌≡◌, ◌+◌, ◌≤◌, ◌↔◌, IfOk, IfSome};
+ghost use Rattle.std.specs.Prelude.{◌≡◌, ◌+◌, ◌≤◌, ◌↔◌, [], IfOk, IfSome, OnErr};
 ghost use Rattle.bits.specs.Refusals.{RefusedMemoryOnly};
 ghost use Rattle.manifest.specs.Groups.{root_of, groups_in};
 ghost use Rattle.planning.specs.Replaced.{without};
 ghost use Rattle.table_commits.specs.Dropping.{rows_in};
 ghost use Rattle.table.specs.Calls.{remove_groups, done};
 ghost use Rattle.table.specs.Views.{answered};
-ghost use Rattle.table_state.specs.Promises.{Acts, HasCause, StaysClosed, ClosesInDoubt, TouchesTable};
+ghost use Rattle.table_state.specs.Promises.{Acts, HasCause, StaysClosed, ClosesInDoubt, LeavesTable, TouchesTable};
 
 use bits::{R, Refusal};
 use disk::Disk;
@@ -31,6 +31,8 @@ pub fn remove_groups<D: Disk>(store: &mut Core<D>, alloc: Global, numbers: &[u64
     ensures cause { HasCause D.state store.old store.new (answered done result) }
     ensures closed { StaysClosed store.old store.new result }
     ensures doubt { ClosesInDoubt store.new result }
+    ensures unwritten { numbers.now ≡ [] → store.new ≡ store.old }
+    ensures kept { OnErr result (LeavesTable store.old store.new) }
     ensures touches { TouchesTable store.old store.new }
     ensures counts { (D.state store.old.vault.disk).failures ≤ (D.state store.new.vault.disk).failures }
     ensures honest { (D.state store.old.vault.disk).honest ↔ (D.state store.new.vault.disk).honest }
@@ -60,8 +62,8 @@ fn without_groups(alloc: Global, version: &Version, numbers: &[u64]) -> R<Remova
     let groups = version.spliced(alloc, edits.as_slice())?;
     let before = rows_in(version.blocks())?;
     let after = rows_in(groups.blocks())?;
-    match before.checked_sub(after) {
-        Some(count) => Ok(Removal { groups, count }),
-        None => Err(Refusal::Memory),
-    }
+    Ok(Removal {
+        groups,
+        count: before - after,
+    })
 }

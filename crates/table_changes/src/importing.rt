@@ -1,9 +1,9 @@
 //! Appends of files.
 
-ghost use Rattle.std.specs.Prelude.{◌≡◌, ◌≤◌, ◌↔◌, IfOk};
+ghost use Rattle.std.specs.Prelude.{◌≡◌, ◌≤◌, ◌↔◌, IfOk, OnErr};
 ghost use Rattle.table.specs.Calls.{import, done};
 ghost use Rattle.table.specs.Views.{answered};
-ghost use Rattle.table_state.specs.Promises.{Acts, HasCause, StaysClosed, ClosesInDoubt, TouchesTable};
+ghost use Rattle.table_state.specs.Promises.{Acts, HasCause, StaysClosed, ClosesInDoubt, LeavesTable, TouchesTable};
 
 use crate::appending_gathered::append_gathered;
 use crate::gathered_rows::gather_bytes;
@@ -24,6 +24,7 @@ pub fn import<D: Disk>(store: &mut Core<D>, alloc: Global, bytes: &[u8]) -> R<u6
     ensures closed { StaysClosed store.old store.new result }
     ensures doubt { ClosesInDoubt store.new result }
     ensures unwritten { IfOk result (λ n. n ≡ 0 → store.new ≡ store.old) }
+    ensures kept { OnErr result (LeavesTable store.old store.new) }
     ensures touches { TouchesTable store.old store.new }
     ensures counts { (D.state store.old.vault.disk).failures ≤ (D.state store.new.vault.disk).failures }
     ensures honest { (D.state store.old.vault.disk).honest ↔ (D.state store.new.vault.disk).honest }

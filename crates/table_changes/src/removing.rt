@@ -1,6 +1,6 @@
 //! The removal of rows.
 
-ghost use Rattle.std.specs.Prelude.{◌≡◌, ◌≤◌, ◌<◌, ◌+◌, ◌↔◌, ◌⊎◌, ℕ, List, [], ◌∷◌, ◌++◌, true, false, None, Ok, IfOk, OnOk, length};
+ghost use Rattle.std.specs.Prelude.{◌≡◌, ◌≤◌, ◌<◌, ◌+◌, ◌↔◌, ◌⊎◌, ℕ, List, [], ◌∷◌, ◌++◌, true, false, None, Ok, IfOk, OnOk, OnErr, length};
 ghost use Rattle.std.specs.List.{AllByRecursion};
 ghost use Rattle.bits.specs.Refusals.{RefusedMemoryOnly};
 ghost use Rattle.schema.specs.Stripe.{leaves_of};
@@ -24,7 +24,8 @@ ghost use Rattle.table.specs.Refusing.{is_failure};
 ghost use Rattle.table.specs.Views.{answered};
 ghost use Rattle.table_state.specs.Buffers.{buffer};
 ghost use Rattle.table_commits.specs.Filling.{HasWritten, IsBuffer};
-ghost use Rattle.table_state.specs.Promises.{Acts, ActsFrom, HasCause, StaysClosed, IsSure, ClosesInDoubt, TouchesTable};
+ghost use Rattle.table_state.specs.Promises.{Acts, ActsFrom, HasCause, StaysClosed, IsSure, ClosesInDoubt, LeavesTable, TouchesTable};
+ghost use Rattle.table_commits.specs.Keeping.{Unwritten};
 ghost use Rattle.table_changes.specs.Removing.{Puts, HasReplaced, Replaces, ReplacesAll};
 ghost use Rattle.table_state.specs.Stands.{Stands};
 
@@ -62,6 +63,8 @@ pub fn remove<D: Disk>(store: &mut Core<D>, alloc: Global, terms: &[Vec<Term>]) 
     ensures cause { HasCause D.state store.old store.new (answered done result) }
     ensures closed { StaysClosed store.old store.new result }
     ensures doubt { ClosesInDoubt store.new result }
+    ensures unwritten { IfOk result (λ n. n ≡ 0 → Unwritten D.state store.old store.new) }
+    ensures kept { OnErr result (LeavesTable store.old store.new) }
     ensures touches { TouchesTable store.old store.new }
     ensures counts { (D.state store.old.vault.disk).failures ≤ (D.state store.new.vault.disk).failures }
     ensures honest { (D.state store.old.vault.disk).honest ↔ (D.state store.new.vault.disk).honest }
@@ -83,6 +86,8 @@ fn remove_rows<D: Disk>(store: &mut Core<D>, alloc: Global, filter: &Filter) -> 
     ensures cause { (D.state store.old.vault.disk).honest → (s : State) (terms : Terms) → Stands D.state store.old s → s.closed ≡ false → fault s (remove terms) ≡ None → tests_of (leaves_of s.table.schema) terms ≡ Ok (tests_in filter.now)
         → is_failure (answered done result) ≡ true → HasFailed (D.state store.old.vault.disk) (D.state store.new.vault.disk) }
     ensures doubt { ClosesInDoubt store.new result }
+    ensures unwritten { IfOk result (λ n. n ≡ 0 → Unwritten D.state store.old store.new) }
+    ensures kept { OnErr result (LeavesTable store.old store.new) }
     ensures touches { TouchesTable store.old store.new }
     ensures counts { (D.state store.old.vault.disk).failures ≤ (D.state store.new.vault.disk).failures }
     ensures honest { (D.state store.old.vault.disk).honest ↔ (D.state store.new.vault.disk).honest }
@@ -109,6 +114,7 @@ fn replace_groups<D: Disk>(
         → HasWritten D.state store.old store.old s None [] [] → store.old.next_group ≡ s.next_group
         → ReplacesAll D.state store.old store.new s (all_satisfied (tests_in filter.now)) result }
     ensures fit { IfOk result (λ removed. CanHave (root_of store.old.manifest) (brought (changes_view removed.changes.items))) }
+    ensures unwritten { IfOk result (λ removed. removed.count ≡ 0 → Unwritten D.state store.old store.new) }
     ensures same { store.new ≡ record store.old { vault = store.new.vault; snapshots = store.new.snapshots; next_group = store.new.next_group } }
     ensures sure { IsSure result }
     ensures counts { (D.state store.old.vault.disk).failures ≤ (D.state store.new.vault.disk).failures }
@@ -140,6 +146,8 @@ fn replace_group<D: Disk>(
         → Replaces D.state start store.new s (all_satisfied (tests_in filter.now)) (place + 1) removed.new result }
     ensures fit { OnOk result (CanHave (root_of store.old.manifest) (brought (changes_view removed.old.changes.items))
         → CanHave (root_of store.old.manifest) (brought (changes_view removed.new.changes.items))) }
+    ensures rises { OnOk result (removed.old.count ≤ removed.new.count) }
+    ensures unwritten { OnOk result (removed.new.count ≡ 0 → Unwritten D.state store.old store.new) }
     ensures same { store.new ≡ record store.old { vault = store.new.vault; snapshots = store.new.snapshots; next_group = store.new.next_group } }
     ensures sure { IsSure result }
     ensures counts { (D.state store.old.vault.disk).failures ≤ (D.state store.new.vault.disk).failures }
@@ -165,6 +173,7 @@ fn put_remains<D: Disk>(
         → Puts D.state start store.old store.new s files groups held remains.entry removed.old removed.new result }
     ensures fit { OnOk result (CanHave (root_of store.old.manifest) (brought (changes_view removed.old.changes.items))
         → CanHave (root_of store.old.manifest) (brought (changes_view removed.new.changes.items))) }
+    ensures counted { OnOk result (removed.new.count ≡ removed.old.count + remains.entry.gone) }
     ensures same { store.new ≡ record store.old { vault = store.new.vault; snapshots = store.new.snapshots; next_group = store.new.next_group } }
     ensures sure { IsSure result }
     ensures counts { (D.state store.old.vault.disk).failures ≤ (D.state store.new.vault.disk).failures }

@@ -1,5 +1,5 @@
 -- An append's commit, once its groups are written: their versions, the table that comes, and that it is asked for.
-use Rattle.std.proofs.Common.{◌≡◌, ◌≤◌, ◌<◌, ◌⊎◌, ℕ, suc, Bool, true, false, not, ◌||◌, nat_eq, List, [], ◌∷◌, ◌++◌, map, length, None, refl, sym, ◌∙◌, ap, subst, arith, inl, inr}
+use Rattle.std.proofs.Common.{◌≡◌, ◌≢◌, ◌≤◌, ◌<◌, ◌⊎◌, ℕ, suc, Bool, true, false, not, ◌||◌, nat_eq, List, [], ◌∷◌, ◌++◌, map, length, None, refl, sym, ◌∙◌, ap, subst, arith, inl, inr}
 use Rattle.std.specs.Prelude.{if◌then◌else◌}
 use Rattle.std.specs.List.{AllByRecursion}
 use Rattle.std.specs.Ordering.{is_le}
@@ -293,11 +293,14 @@ module _ {D : Type 0} (state : D → DiskState) (old mid : Core D) (s : State) (
     covers = brought.covered;
   }
 
+  other : grown ≢ s.table
+  other same = more_groups (ap (λ (t : Table). t.groups) same)
+
   pub asks : fault s (append given) ≡ None → AsksCommit s (append given) (length given) grown counter
-  asks fine = appends_ask s given (length given) grown counter is_open fine leads (λ same. more_groups (ap (λ (t : Table). t.groups) same))
+  asks fine = appends_ask s given (length given) grown counter is_open fine leads other
 
   pub over : IsRootTooHeavy (with_version old_root files next) → IsOver s (append given)
-  over heavy = over_root (length given) grown counter leads (too_heavy_is_too_much disk counter grown (with_version old_root files next) wrote.shows.schema wrote.shows.keys stored described heavy)
+  over heavy = over_root (length given) grown counter leads other (too_heavy_is_too_much disk counter grown (with_version old_root files next) wrote.shows.schema wrote.shows.keys stored described heavy)
 
 pub appends_are_ready : {D : Type 0} (state : D → DiskState) → AppendsAreReady state
 appends_are_ready state old mid s counter given come added next b = record {

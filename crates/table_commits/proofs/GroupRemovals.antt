@@ -228,7 +228,7 @@ module _ {D : Type 0} (state : D → DiskState) (store : Core D) (s : State) (st
       }
 
       pub over : (gs : List FileGroup) (next : ℕ) → gs ≡ files → next ≡ old_root.next → IsRootTooHeavy (with_version old_root gs next) → IsOver s call
-      over gs next e f heavy = over_root count left s.next_group (leads count (count_is count counted))
+      over gs next e f heavy = over_root count left s.next_group (leads count (count_is count counted)) asks.other
           (too_heavy_is_too_much disk s.next_group left (with_version old_root files old_root.next) stands.shows.schema stands.shows.keys stored described
           (subst (λ (n : ℕ). IsRootTooHeavy (with_version old_root files n)) f (subst (λ (hs : List FileGroup). IsRootTooHeavy (with_version old_root hs next)) e heavy)))
 

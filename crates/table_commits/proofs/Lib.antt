@@ -24,7 +24,6 @@ pub mod GroupRemovals
 pub mod AppendCommits
 pub mod OtherJobsAndCursors
 pub mod JobsChanged
-mod CopiedRows
 pub mod RowsWithoutKeys
 pub mod KeyOrder
 pub mod GroupsInOrder

@@ -31,3 +31,8 @@ NewFilesAreFree {D} state = (store : Core D) (s : State) → Stands state store 
 pub record LeavesFiles {D : Type 0} (state : D → DiskState) (old new : Core D) : Type 0 where
   pub leaves : (state old.vault.disk).honest → LeavesAll (state old.vault.disk) (state new.vault.disk)
   pub keeps : new.keeps ≡ old.keeps
+
+-- A call that writes nothing: of the store only the disk changes, and of an honest disk no file and no folder.
+pub record Unwritten {D : Type 0} (state : D → DiskState) (old new : Core D) : Type 0 where
+  pub leaves : (state old.vault.disk).honest → LeavesAll (state old.vault.disk) (state new.vault.disk)
+  pub same : new ≡ record old { vault = new.vault }

@@ -1,7 +1,7 @@
 //! The one way that each commit goes.
 
 ghost use Rattle.std.specs.List.{AllByRecursion};
-ghost use Rattle.std.specs.Prelude.{◌≡◌, ◌<◌, ◌⊎◌, ◌≤◌, ◌↔◌, ◌++◌, ℕ, List, Option, false, Err, IfOk, None};
+ghost use Rattle.std.specs.Prelude.{◌≡◌, ◌<◌, ◌⊎◌, ◌≤◌, ◌↔◌, ◌++◌, ℕ, List, Option, false, Err, IfOk, OnErr, None};
 ghost use Rattle.bits.specs.Refusals.{RefusedOnly, RefusedMemoryOnly};
 ghost use Rattle.table.specs.InOrder.{in_order};
 ghost use Rattle.manifest.specs.Groups.{Group as Described, root_of, groups_in, handles_view};
@@ -9,7 +9,7 @@ ghost use Rattle.manifest.specs.Laid.{IsRootTooHeavy};
 ghost use Rattle.manifest.specs.Root.{CanHave};
 ghost use Rattle.table.specs.Table.{Table};
 ghost use Rattle.table.specs.State.{State, Job};
-ghost use Rattle.table_state.specs.Promises.{ClosesInDoubt, TouchesTable, TouchesTableAndJobs};
+ghost use Rattle.table_state.specs.Promises.{ClosesInDoubt, LeavesTable, TouchesTable, TouchesTableAndJobs};
 ghost use Rattle.table_state.specs.Stands.{Shows};
 ghost use Rattle.table_commits.specs.Causes.{IsCommitRefusal};
 ghost use Rattle.table_commits.specs.Committing.{IsPlanned, Turns, with_version};
@@ -43,6 +43,7 @@ pub fn commit_to<D: Disk>(
     ensures which { (s : State) (t : Table) (jobs : List (ℕ × Job)) → IsPlanned (D.state store.old.vault.disk) store.old s t jobs job (root_of manifest)
         → RefusedOnly IsCommitRefusal result }
     ensures doubt { ClosesInDoubt store.new result }
+    ensures kept { OnErr result (LeavesTable store.old store.new) }
     ensures touches { TouchesTableAndJobs store.old store.new }
     ensures alone { job ≡ None → TouchesTable store.old store.new }
     ensures counts { (D.state store.old.vault.disk).failures ≤ (D.state store.new.vault.disk).failures }
@@ -76,6 +77,7 @@ pub fn commit_version<D: Disk>(
         → IsPlanned (D.state store.old.vault.disk) store.old s t jobs job (with_version (root_of store.old.manifest) (groups_in groups) next)
         → RefusedOnly IsCommitRefusal result }
     ensures doubt { ClosesInDoubt store.new result }
+    ensures kept { OnErr result (LeavesTable store.old store.new) }
     ensures touches { TouchesTableAndJobs store.old store.new }
     ensures alone { job ≡ None → TouchesTable store.old store.new }
     ensures counts { (D.state store.old.vault.disk).failures ≤ (D.state store.new.vault.disk).failures }

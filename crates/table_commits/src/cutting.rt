@@ -4,10 +4,10 @@ ghost use Rattle.std.specs.Prelude.{◌≡◌, IfOk};
 ghost use Rattle.bits.specs.Refusals.{RefusedMemoryOnly};
 ghost use Rattle.schema.specs.Values.{view, member_at};
 ghost use Rattle.schema.specs.Views.{key_view, row_view};
-ghost use Rattle.schema.specs.Keys.{key_columns_view, key_of_row, places_of, row_without_keys};
-ghost use Rattle.schema.specs.Cutting.{is_among};
+ghost use Rattle.schema.specs.Keys.{key_columns_view, key_of_row, row_without_keys};
 
 use bits::R;
+use partition::without_keys;
 use schema::{Key, KeyColumn, Row, Value};
 use std::alloc::Global;
 
@@ -25,7 +25,7 @@ pub(crate) fn cut_row(alloc: Global, columns: &[KeyColumn], row: &Row) -> R<CutR
     ensures which { RefusedMemoryOnly result }
 {
     let key = key_of(alloc, columns, row)?;
-    let rest = rest_of(alloc, columns, row)?;
+    let rest = without_keys(alloc, columns, row)?;
     Ok(CutRow { key, rest })
 }
 
@@ -52,32 +52,4 @@ fn value_at(alloc: Global, row: &Row, at: usize) -> R<Value>
     }
     let value = row.values[at].copied(alloc)?;
     Ok(value)
-}
-
-/// A copy of a row's values besides the key columns.
-pub fn rest_of(alloc: Global, columns: &[KeyColumn], row: &Row) -> R<Row>
-    ensures is { IfOk result (λ rest. row_view rest ≡ row_without_keys (key_columns_view columns.now) (row_view row.now)) }
-    ensures which { RefusedMemoryOnly result }
-{
-    let mut values = Vec::with_capacity(alloc, row.values.len())?;
-    for at in 0..row.values.len() {
-        if is_key_place(columns, at) {
-            continue;
-        }
-        let value = row.values[at].copied(alloc)?;
-        values.push(value)?;
-    }
-    Ok(Row { values })
-}
-
-/// Whether a key column is at this place.
-fn is_key_place(columns: &[KeyColumn], at: usize) -> bool
-    ensures { result ≡ is_among (places_of (key_columns_view columns.now)) at }
-{
-    for column in columns {
-        if column.at == at {
-            return true;
-        }
-    }
-    false
 }

@@ -18,7 +18,6 @@ mod wide_part;
 pub use buffered_part::write_gathered;
 pub use cleaning::let_go;
 pub use committing::{commit_to, commit_version, with_new};
-pub use cutting::rest_of;
 pub use filling::{take_rows, write_rest};
 pub use keeping::{clean_up, keep_replaced};
 pub use sums::{plus_rows, rows_in, sum_of};

@@ -1,11 +1,11 @@
 //! The commit of a new version.
 
-ghost use Rattle.std.specs.Prelude.{◌≡◌, ◌⊎◌, ◌↔◌, ℕ, List, false, IsTrue, None};
+ghost use Rattle.std.specs.Prelude.{◌≡◌, ◌⊎◌, ◌↔◌, ℕ, List, false, IsTrue, OnErr, None};
 ghost use Rattle.bits.specs.Refusals.{RefusedOnly};
 ghost use Rattle.vault.specs.Calls.{CountsOnce};
 ghost use Rattle.table.specs.Table.{Table};
 ghost use Rattle.table.specs.State.{State, Job};
-ghost use Rattle.table_state.specs.Promises.{ClosesInDoubt, TouchesTable, TouchesTableAndJobs};
+ghost use Rattle.table_state.specs.Promises.{ClosesInDoubt, LeavesTable, TouchesTable, TouchesTableAndJobs};
 ghost use Rattle.table_state.specs.Lookups.{jobs_left};
 ghost use Rattle.table_state.specs.Stands.{Shows};
 ghost use Rattle.table_commits.specs.Committing.{IsTurnTo, Turns};
@@ -42,6 +42,7 @@ pub(crate) fn take_turn<D: Disk>(store: &mut Core<D>, turn: Turn) -> R<()>
         → IsTurnTo (D.state store.old.vault.disk) store.old s t jobs turn → Turns D.state store.old store.new s t jobs result }
     ensures which { RefusedOnly (λ e. (e ≡ Refusal.Device) ⊎ (e ≡ Refusal.InDoubt)) result }
     ensures doubt { ClosesInDoubt store.new result }
+    ensures kept { OnErr result (LeavesTable store.old store.new) }
     ensures touches { TouchesTableAndJobs store.old store.new }
     ensures alone { turn.job ≡ None → TouchesTable store.old store.new }
     ensures counts { CountsOnce result (D.state store.old.vault.disk) (D.state store.new.vault.disk) }

@@ -421,11 +421,14 @@ module _ {D : Type 0} (state : D → DiskState) (old mid : Core D) (s : State) (
       covers = covered;
     }
 
+    other : table_then ≢ s.table
+    other same = other_groups (ap (λ (t : Table). t.groups) same)
+
     pub asks : fault s (commit n) ≡ None → AsksCommit s (commit n) (length (rows (sources runs))) table_then counter
     asks fine = record {
       leads = leads;
       unrefused = fine;
-      other = λ same. other_groups (ap (λ (t : Table). t.groups) same);
+      other = other;
       on = ap not is_open;
       memory = refl;
       disk = refl;
@@ -434,4 +437,4 @@ module _ {D : Type 0} (state : D → DiskState) (old mid : Core D) (s : State) (
     }
 
     pub over : IsRootTooHeavy (with_version old_root files_then next) → IsOver s (commit n)
-    over heavy = over_root (length (rows (sources runs))) table_then counter leads (too_heavy_is_too_much disk counter table_then (with_version old_root files_then next) wrote.shows.schema wrote.shows.keys stored described heavy)
+    over heavy = over_root (length (rows (sources runs))) table_then counter leads other (too_heavy_is_too_much disk counter table_then (with_version old_root files_then next) wrote.shows.schema wrote.shows.keys stored described heavy)

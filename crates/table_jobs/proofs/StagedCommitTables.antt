@@ -1,5 +1,5 @@
 -- The commit of an append that was staged, once all its groups are written.
-use Rattle.std.proofs.Common.{◌≡◌, ◌<◌, ℕ, Bool, true, false, not, ◌||◌, nat_eq, List, [], ◌∷◌, ◌++◌, length, Some, None, refl, sym, ◌∙◌, ap, subst, arith}
+use Rattle.std.proofs.Common.{◌≡◌, ◌≢◌, ◌<◌, ℕ, Bool, true, false, not, ◌||◌, nat_eq, List, [], ◌∷◌, ◌++◌, length, Some, None, refl, sym, ◌∙◌, ap, subst, arith}
 use Rattle.std.specs.List.{AllByRecursion}
 use Rattle.std.proofs.lemmas.Bool.{and_from, eqb-true}
 use Rattle.std.proofs.lemmas.List.{length-append, nil_from_length}
@@ -173,11 +173,14 @@ module _ {D : Type 0} (state : D → DiskState) (old mid : Core D) (s : State) (
     covers = brought.covered;
   }
 
+  other : grown ≢ s.table
+  other same = more_groups (ap (λ (t : Table). t.groups) same)
+
   pub asks : fault s (commit n) ≡ None → AsksCommit s (commit n) (length staged) grown counter
   asks fine = record {
     leads = leads;
     unrefused = fine;
-    other = λ same. more_groups (ap (λ (t : Table). t.groups) same);
+    other = other;
     on = ap not is_open;
     memory = refl;
     disk = refl;
@@ -186,7 +189,7 @@ module _ {D : Type 0} (state : D → DiskState) (old mid : Core D) (s : State) (
   }
 
   pub over : IsRootTooHeavy (with_version old_root files next) → IsOver s (commit n)
-  over heavy = over_root (length staged) grown counter leads (too_heavy_is_too_much disk counter grown (with_version old_root files next) wrote.shows.schema wrote.shows.keys stored described heavy)
+  over heavy = over_root (length staged) grown counter leads other (too_heavy_is_too_much disk counter grown (with_version old_root files next) wrote.shows.schema wrote.shows.keys stored described heavy)
 
 pub staged_are_ready : {D : Type 0} (state : D → DiskState) → StagedAreReady state
 staged_are_ready state old mid s counter n staged come added next stands is_open wrote brought ordered parted = record {

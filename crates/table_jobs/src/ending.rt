@@ -1,6 +1,6 @@
 //! The ends of jobs.
 
-ghost use Rattle.std.specs.Prelude.{◌≡◌, ◌≤◌, ◌↔◌, true, false, None, OnOk};
+ghost use Rattle.std.specs.Prelude.{◌≡◌, ◌≢◌, ◌≤◌, ◌↔◌, true, false, None, IfErr, OnOk, OnErr};
 ghost use Rattle.bits.specs.Refusals.{RefusedMemoryOnly};
 ghost use Rattle.manifest.specs.Groups.{root_of, handles_view};
 ghost use Rattle.manifest.specs.Root.{CanHave};
@@ -13,7 +13,7 @@ ghost use Rattle.table.specs.Refusing.{is_failure};
 ghost use Rattle.table.specs.Calls.{commit, abort, done, accepted};
 ghost use Rattle.table.specs.Views.{answered};
 ghost use Rattle.table_state.specs.Stands.{Stands};
-ghost use Rattle.table_state.specs.Promises.{Acts, ActsFrom, HasCause, StaysClosed, ClosesInDoubt, TouchesJobs, TouchesTableAndJobs};
+ghost use Rattle.table_state.specs.Promises.{Acts, ActsFrom, HasCause, StaysClosed, ClosesInDoubt, LeavesTable, TouchesJobs, TouchesTableAndJobs};
 
 use crate::append_work::{waiting_rows, written_with};
 use crate::rewritten::commit_rewrite;
@@ -39,6 +39,8 @@ pub fn commit<D: Disk>(store: &mut Core<D>, alloc: Global, job: JobId) -> R<u64>
     ensures cause { HasCause D.state store.old store.new (answered done result) }
     ensures closed { StaysClosed store.old store.new result }
     ensures doubt { ClosesInDoubt store.new result }
+    ensures kept { IfErr result (λ e. e ≢ Refusal.Stale → LeavesTable store.old store.new) }
+    ensures table { OnErr result (store.new.manifest ≡ store.old.manifest) }
     ensures touches { TouchesTableAndJobs store.old store.new }
     ensures counts { (D.state store.old.vault.disk).failures ≤ (D.state store.new.vault.disk).failures }
     ensures honest { (D.state store.old.vault.disk).honest ↔ (D.state store.new.vault.disk).honest }
@@ -71,6 +73,7 @@ fn commit_append<D: Disk>(store: &mut Core<D>, alloc: Global, job: JobId) -> R<u
     ensures cause { (D.state store.old.vault.disk).honest → (s : State) → Stands D.state store.old s → s.closed ≡ false → fault s (commit job) ≡ None → finds_append (job_at job store.old.jobs.items) ≡ true
         → finds_nothing (job_at job store.old.jobs.items) ≡ false → is_failure (answered done result) ≡ true → HasFailed (D.state store.old.vault.disk) (D.state store.new.vault.disk) }
     ensures doubt { ClosesInDoubt store.new result }
+    ensures kept { OnErr result (LeavesTable store.old store.new) }
     ensures touches { TouchesTableAndJobs store.old store.new }
     ensures counts { (D.state store.old.vault.disk).failures ≤ (D.state store.new.vault.disk).failures }
     ensures honest { (D.state store.old.vault.disk).honest ↔ (D.state store.new.vault.disk).honest }

@@ -1,6 +1,6 @@
 //! Rewrites of groups.
 
-ghost use Rattle.std.specs.Prelude.{◌≡◌, ◌≤◌, ◌↔◌, true, false, None};
+ghost use Rattle.std.specs.Prelude.{◌≡◌, ◌≤◌, ◌↔◌, true, false, None, OnOk};
 ghost use Rattle.vault.specs.Calls.{HasFailed};
 ghost use Rattle.table_state.specs.Lookups.{job_at};
 ghost use Rattle.table_reads.specs.Stepping.{is_rewrite, finds_rewrite};
@@ -62,6 +62,7 @@ pub fn step_rewrite<D: Disk>(store: &mut Core<D>, alloc: Global, job: JobId) -> 
     ensures acts { Acts D.state store.old store.new (step_rewrite job) (answered more result) }
     ensures cause { HasCause D.state store.old store.new (answered more result) }
     ensures closed { StaysClosed store.old store.new result }
+    ensures unfailed { OnOk result ((D.state store.new.vault.disk).failures ≡ (D.state store.old.vault.disk).failures) }
     ensures touches { TouchesJobs store.old store.new }
     ensures counts { (D.state store.old.vault.disk).failures ≤ (D.state store.new.vault.disk).failures }
     ensures honest { (D.state store.old.vault.disk).honest ↔ (D.state store.new.vault.disk).honest }
@@ -84,6 +85,7 @@ fn read_source<D: Disk>(store: &mut Core<D>, alloc: Global, job: JobId) -> R<boo
         → ActsFrom D.state store.old store.new (step_rewrite job) (answered more result) s }
     ensures cause { (D.state store.old.vault.disk).honest → (s : State) → Stands D.state store.old s → s.closed ≡ false → fault s (step_rewrite job) ≡ None
         → is_failure (answered more result) ≡ true → HasFailed (D.state store.old.vault.disk) (D.state store.new.vault.disk) }
+    ensures unfailed { OnOk result ((D.state store.new.vault.disk).failures ≡ (D.state store.old.vault.disk).failures) }
     ensures touches { TouchesJobs store.old store.new }
     ensures counts { (D.state store.old.vault.disk).failures ≤ (D.state store.new.vault.disk).failures }
     ensures honest { (D.state store.old.vault.disk).honest ↔ (D.state store.new.vault.disk).honest }

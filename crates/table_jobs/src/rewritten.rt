@@ -1,6 +1,6 @@
 //! The commit of a rewrite.
 
-ghost use Rattle.std.specs.Prelude.{◌≡◌, ◌≢◌, ◌≤◌, ◌<◌, ◌^◌, ◌++◌, ◌↔◌, ℕ, List, Some, None, [], false, true, IfOk, OnOk};
+ghost use Rattle.std.specs.Prelude.{◌≡◌, ◌≢◌, ◌≤◌, ◌<◌, ◌^◌, ◌++◌, ◌↔◌, ℕ, List, Some, None, [], false, true, IfOk, IfErr, OnOk, OnErr};
 ghost use Rattle.std.specs.List.{AllByRecursion};
 ghost use Rattle.bits.specs.Refusals.{RefusedMemoryOnly};
 ghost use Rattle.vault.specs.Calls.{HasFailed};
@@ -18,7 +18,7 @@ ghost use Rattle.table.specs.Views.{answered};
 ghost use Rattle.table_state.specs.declared.jobs.Rewriting.{Rewriting};
 ghost use Rattle.table_state.specs.Lookups.{job_at};
 ghost use Rattle.table_state.specs.Stands.{Stands};
-ghost use Rattle.table_state.specs.Promises.{ActsFrom, IsSure, ClosesInDoubt, TouchesTableAndJobs};
+ghost use Rattle.table_state.specs.Promises.{ActsFrom, IsSure, ClosesInDoubt, LeavesTable, TouchesTableAndJobs};
 ghost use Rattle.table_commits.specs.Filling.{HasWritten};
 ghost use Rattle.table_jobs.specs.Rewritten.{IsRewriteAt, AreSources, AreRuns, IsRunIn, RewritesOne, RewritesAll};
 
@@ -42,6 +42,8 @@ pub(crate) fn commit_rewrite<D: Disk>(store: &mut Core<D>, alloc: Global, job: J
     ensures cause { (D.state store.old.vault.disk).honest → (s : State) (r : Rewriting) → Stands D.state store.old s → s.closed ≡ false → s.next_group < 2 ^ 63 → IsRewriteAt job store.old.jobs.items r → r.runs.items ≢ []
         → is_failure (answered done result) ≡ true → HasFailed (D.state store.old.vault.disk) (D.state store.new.vault.disk) }
     ensures doubt { ClosesInDoubt store.new result }
+    ensures kept { IfErr result (λ e. e ≢ Refusal.Stale → LeavesTable store.old store.new) }
+    ensures table { OnErr result (store.new.manifest ≡ store.old.manifest) }
     ensures touches { TouchesTableAndJobs store.old store.new }
     ensures counts { (D.state store.old.vault.disk).failures ≤ (D.state store.new.vault.disk).failures }
     ensures honest { (D.state store.old.vault.disk).honest ↔ (D.state store.new.vault.disk).honest }
@@ -60,6 +62,8 @@ fn end_stale<D: Disk>(store: &mut Core<D>, alloc: Global, job: JobId) -> R<u64>
         → ActsFrom D.state store.old store.new (commit job) (answered done result) s }
     ensures cause { is_failure (answered done result) ≡ false }
     ensures sure { IsSure result }
+    ensures kept { IfErr result (λ e. e ≢ Refusal.Stale → LeavesTable store.old store.new) }
+    ensures table { OnErr result (store.new.manifest ≡ store.old.manifest) }
     ensures touches { TouchesTableAndJobs store.old store.new }
     ensures counts { (D.state store.old.vault.disk).failures ≤ (D.state store.new.vault.disk).failures }
     ensures honest { (D.state store.old.vault.disk).honest ↔ (D.state store.new.vault.disk).honest }
@@ -78,6 +82,7 @@ fn commit_runs<D: Disk>(store: &mut Core<D>, alloc: Global, job: JobId, runs: &[
     ensures cause { (D.state store.old.vault.disk).honest → (s : State) (r : Rewriting) → Stands D.state store.old s → s.closed ≡ false → IsRewriteAt job store.old.jobs.items r → r.runs.items ≢ [] → sources_view runs.now ≡ sources_view r.runs.items
         → fault s (commit job) ≡ None → is_failure (answered done result) ≡ true → HasFailed (D.state store.old.vault.disk) (D.state store.new.vault.disk) }
     ensures doubt { ClosesInDoubt store.new result }
+    ensures kept { OnErr result (LeavesTable store.old store.new) }
     ensures touches { TouchesTableAndJobs store.old store.new }
     ensures counts { (D.state store.old.vault.disk).failures ≤ (D.state store.new.vault.disk).failures }
     ensures honest { (D.state store.old.vault.disk).honest ↔ (D.state store.new.vault.disk).honest }

@@ -24,6 +24,7 @@ use bits::{R, Refusal};
 use disk::Disk;
 use gather::KeyBuffer;
 use manifest::{Group, Manifest};
+use partition::without_keys;
 use scan::GroupRows;
 use schema::Row;
 use shred::RowBuffer;
@@ -31,7 +32,7 @@ use std::alloc::Global;
 use std::mem;
 use std::rc::Rc;
 use table::JobId;
-use table_commits::{rest_of, write_gathered};
+use table_commits::write_gathered;
 use table_reads::{show_next, shown_rows};
 use table_state::Core;
 
@@ -131,7 +132,7 @@ fn take_kept<'a, D: Disk>(
     ensures honest { (D.state store.old.vault.disk).honest ↔ (D.state store.new.vault.disk).honest }
 {
     for row in given {
-        let rest = rest_of(alloc, table.keys(), &row)?;
+        let rest = without_keys(alloc, table.keys(), &row)?;
         waiting.rows.push(rest)?;
         write_full(store, alloc, job, table, written, waiting)?;
     }

@@ -1,6 +1,6 @@
 //! Counting.
 
-ghost use Rattle.std.specs.Prelude.{◌≡◌, ◌≤◌, ◌+◌, ◌↔◌, ◌∷◌, [], List, IfOk};
+ghost use Rattle.std.specs.Prelude.{◌≡◌, ◌≤◌, ◌+◌, ◌↔◌, ◌∷◌, [], List, IfOk, OnOk};
 ghost use Rattle.bits.specs.Refusals.{RefusedOnly, RefusedMemoryOnly};
 ghost use Rattle.filter.specs.Test.{tests_in};
 ghost use Rattle.manifest.specs.Groups.{group_view, handles_view, root_of};
@@ -33,6 +33,8 @@ pub fn count<D: Disk>(store: &mut Core<D>, alloc: Global, terms: &[Vec<Term>]) -
     ensures acts { Acts D.state store.old store.new (count (terms_view terms.now)) (answered counted result) }
     ensures cause { HasCause D.state store.old store.new (answered counted result) }
     ensures leaves { LeavesFiles D.state store.old store.new }
+    ensures touches { store.new ≡ record store.old { vault = store.new.vault } }
+    ensures unfailed { OnOk result ((D.state store.new.vault.disk).failures ≡ (D.state store.old.vault.disk).failures) }
     ensures unread { terms.now ≡ [] → (D.state store.new.vault.disk).reads ≡ (D.state store.old.vault.disk).reads }
     ensures closed { StaysClosed store.old store.new result }
     ensures counts { (D.state store.old.vault.disk).failures ≤ (D.state store.new.vault.disk).failures }

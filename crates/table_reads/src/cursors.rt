@@ -1,6 +1,6 @@
 //! Queries.
 
-ghost use Rattle.std.specs.Prelude.{◌≡◌, ◌≤◌, ◌↔◌, true, OnErr};
+ghost use Rattle.std.specs.Prelude.{◌≡◌, ◌≤◌, ◌↔◌, true, OnOk, OnErr};
 ghost use Rattle.filter.specs.Terms.{terms_view};
 ghost use Rattle.table.specs.Calls.{Answer, query, fetch, close, cursor, accepted, ended};
 ghost use Rattle.table.specs.Views.{names_view, fetched_view, answered};
@@ -79,6 +79,7 @@ pub fn fetch<D: Disk>(store: &mut Core<D>, alloc: Global, cursor: CursorId) -> R
     ensures closed { StaysClosed store.old store.new result }
     ensures touches { TouchesCursors store.old store.new }
     ensures stays { OnErr result (store.new ≡ record store.old { vault = store.new.vault }) }
+    ensures unfailed { OnOk result ((D.state store.new.vault.disk).failures ≡ (D.state store.old.vault.disk).failures) }
     ensures counts { (D.state store.old.vault.disk).failures ≤ (D.state store.new.vault.disk).failures }
     ensures honest { (D.state store.old.vault.disk).honest ↔ (D.state store.new.vault.disk).honest }
 {
@@ -116,6 +117,7 @@ pub fn fetch_rows<D: Disk>(
     ensures closed { StaysClosed store.old store.new result }
     ensures touches { TouchesCursors store.old store.new }
     ensures stays { OnErr result (store.new ≡ record store.old { vault = store.new.vault }) }
+    ensures unfailed { OnOk result ((D.state store.new.vault.disk).failures ≡ (D.state store.old.vault.disk).failures) }
     ensures counts { (D.state store.old.vault.disk).failures ≤ (D.state store.new.vault.disk).failures }
     ensures honest { (D.state store.old.vault.disk).honest ↔ (D.state store.new.vault.disk).honest }
 {

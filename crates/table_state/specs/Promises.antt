@@ -66,6 +66,11 @@ abbrev pub TouchesTableAndJobs : {D : Type 0} → Core D → Core D → Type 0
 TouchesTableAndJobs old new =
     new ≡ record old { vault = new.vault; manifest = new.manifest; snapshots = new.snapshots; next_group = new.next_group; jobs = new.jobs; closed = new.closed }
 
+-- A change that is refused, the commit of a job too: the disk, which files are in use, the next number of a file, and that the store is
+-- closed. The table is the one before, and so are all jobs, cursors and settings.
+abbrev pub LeavesTable : {D : Type 0} → Core D → Core D → Type 0
+LeavesTable old new = new ≡ record old { vault = new.vault; snapshots = new.snapshots; next_group = new.next_group; closed = new.closed }
+
 -- a call on cursors: the disk, which files are in use, and cursors; not the table, and no job
 abbrev pub TouchesCursors : {D : Type 0} → Core D → Core D → Type 0
 TouchesCursors old new = new ≡ record old { vault = new.vault; snapshots = new.snapshots; cursors = new.cursors; next_cursor = new.next_cursor }

@@ -168,3 +168,9 @@ returns-clause-acts g c honest s terms stands is_open fine made =
     let new = c.commit_version.new.store in
     let plan = planned st old s stands is_open terms fine mid removed r some next falls above least gs are in
     done_so st old s stands is_open terms fine mid removed r some next falls above least gs are new (c.in_ok-commit_version.ensures.turns (c.in_ok-removed.ensures.honest.0 honest) _ _ s.jobs r.written.wrote.shows is_open plan)
+
+pub returns-then-removed-eq0-clause-unwritten : goal.returns-then-removed-eq0-clause-unwritten
+returns-then-removed-eq0-clause-unwritten g c none = c.in_ok-removed.ensures.unwritten c.if-removed-eq0.true
+
+pub returns-clause-unwritten : goal.returns-clause-unwritten
+returns-clause-unwritten g c none = absurd (c.if-removed-eq0.false none)

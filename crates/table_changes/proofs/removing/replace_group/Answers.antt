@@ -14,6 +14,8 @@ use Rattle.table_state.specs.declared.standing.Core.{Core}
 use Rattle.table_changes.specs.declared.remaining.Remains.{Remains}
 use Rattle.table_reads.specs.Counting.{IsHeld}
 use Rattle.table_changes.specs.Removing.{AreRemains, Replaces, files_come, groups_come, not_those}
+use Rattle.table_commits.specs.Keeping.{Unwritten}
+use Rattle.table_changes.proofs.NothingWritten.{after_ok}
 use Rattle.table_changes.proofs.ReplacingOneGroup.{has_read}
 use Rattle.table_changes.proofs.GroupsReplaced.{at, held, is_buffer, stays_on, put_ends, read_stops}
 use Rattle.table_changes.proofs.removing.replace_group.Goals as goal
@@ -77,3 +79,20 @@ returns-clause-replaces g c honest start s terms same is_open made within r =
     let puts = c.put_remains.ensures.puts (done.ensures.effect.honest.0 honest) start s (files_come r.outcomes) (groups_come r.outcomes) (map (row_without_keys (root_of old.manifest).keys) left) left is_open has (are.rest some) buffer in
     put_ends st start old s is_open tests place removed r within rest are mid new c.put_remains.new.removed some refl
     (ap (λ (x : Core g.row.D.Denot). root_of x.manifest) c.put_remains.ensures.same) c.put_remains.result puts
+
+pub returns-then-remains-eq0-clause-unwritten : goal.returns-then-remains-eq0-clause-unwritten
+returns-then-remains-eq0-clause-unwritten g c none = record { leaves = c.in_ok-remains.ensures.effect.unchanged; same = refl }
+
+pub returns-clause-rises : goal.returns-clause-rises
+returns-clause-rises g c =
+    let before = c.args.removed.now.count in
+    let after = c.put_remains.new.removed.count in
+    after_ok c.put_remains.result (after ≡ before + c.in_ok-remains.remains.gone) (before ≤ after) (λ is. omega (arith, is)) c.put_remains.ensures.counted
+
+pub returns-clause-unwritten : goal.returns-clause-unwritten
+returns-clause-unwritten g c =
+    let before = c.args.removed.now.count in
+    let after = c.put_remains.new.removed.count in
+    let some = c.if-remains-eq0.false in
+    after_ok c.put_remains.result (after ≡ before + c.in_ok-remains.remains.gone) (after ≡ 0 → Unwritten g.D.Disk.state c.args.store.now c.put_remains.new.store)
+    (λ is none. absurd (omega (arith, is, none, some))) c.put_remains.ensures.counted

@@ -9,6 +9,7 @@ use Rattle.planning.specs.Numbered.{brought}
 use Rattle.planning.specs.Replaced.{Change, changes_view}
 use Rattle.table_state.specs.declared.standing.Core.{Core}
 use Rattle.table_changes.specs.Removing.{ReplacesAll}
+use Rattle.table_changes.proofs.NothingWritten.{unwritten_yet, unwritten_then}
 use Rattle.table_changes.proofs.GroupsReplaced.{at_first, at_last}
 use Rattle.table_changes.proofs.removing.replace_groups.Goals as goal
 
@@ -17,6 +18,7 @@ loop-place-init g c = record {
   same = refl;
   failures = omega arith;
   honest = (λ h. h, λ h. h);
+  unwritten = λ none. unwritten_yet g.D.Disk.state c.args.store.now;
   fit = subst (λ (cs : List Change). CanHave (root_of c.args.store.now.manifest) (brought cs)) (sym (ap changes_view c.new.ensures.items)) tt;
   replaces = λ honest s terms described is_open made has same. at_first g.D.Disk.state c.args.store.now s has same (all_satisfied (tests_in c.args.filter.now)) _ (ap changes_view c.new.ensures.items) refl;
 }
@@ -35,6 +37,7 @@ loop-place-preserved g c =
       same = done.ensures.same ∙ ap (λ (x : Core g.row.D.Denot). record x { vault = new.vault; snapshots = new.snapshots; next_group = new.next_group }) so_far.same;
       failures = omega (arith, so_far.failures, done.ensures.counts);
       honest = both so_far.honest done.ensures.honest;
+      unwritten = λ none. unwritten_then g.D.Disk.state old mid new so_far.honest (so_far.unwritten (omega (arith, done.ensures.rises, none))) (done.ensures.unwritten none);
       fit = subst (λ (r : Root). CanHave r (brought (changes_view c.loop-place.removed.changes.items)) → CanHave r (brought (changes_view c.replace_group.new.removed.changes.items))) manifest done.ensures.fit so_far.fit;
       replaces = λ honest s terms described is_open made has same. done.ensures.replaces (so_far.honest.0 honest) old s terms (described ∙ sym manifest) is_open made within (so_far.replaces honest s terms described is_open made has same);
     }

@@ -10,6 +10,7 @@ use Rattle.planning.specs.Replaced.{changes_view}
 use Rattle.table.specs.Deciding.{Filter as Terms}
 use Rattle.table.specs.State.{State}
 use Rattle.table_commits.specs.Filling.{HasWritten}
+use Rattle.table_commits.specs.Keeping.{Unwritten}
 use Rattle.table_changes.specs.Removing.{HasReplaced}
 use Rattle.table_changes.proofs.removing.replace_groups.Given as goal
 
@@ -18,6 +19,7 @@ invariant-loop-place g l = record {
   same : l.store ≡ record l.fn.store { vault = l.store.vault; snapshots = l.store.snapshots; next_group = l.store.next_group };
   failures : (g.D.Disk.state l.fn.store.vault.disk).failures ≤ (g.D.Disk.state l.store.vault.disk).failures;
   honest : (g.D.Disk.state l.fn.store.vault.disk).honest ↔ (g.D.Disk.state l.store.vault.disk).honest;
+  unwritten : l.removed.count ≡ 0 → Unwritten g.D.Disk.state l.fn.store l.store;
   fit : CanHave (root_of l.fn.store.manifest) (brought (changes_view l.removed.changes.items));
   replaces : (g.D.Disk.state l.fn.store.vault.disk).honest → (s : State) (terms : Terms) → root_of l.table ≡ root_of l.fn.store.manifest → s.closed ≡ false → tests_of (leaves_of s.table.schema) terms ≡ Ok (tests_in l.filter)
       → HasWritten g.D.Disk.state l.fn.store l.fn.store s None [] [] → l.fn.store.next_group ≡ s.next_group

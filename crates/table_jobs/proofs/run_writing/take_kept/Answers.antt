@@ -59,7 +59,7 @@ returns-in_err-push-clause-takes g c honest start s task later is_open described
     let others = rows_view (into_iter_items c.next.new.self) in
     let way = subst (λ (xs : List CodeRow). AreUnderWay g.D.Disk.state start mid s c.args.job task files at.waiting (rows_view xs ++ later) 1) c.in-Some.ensures.steps.0 (at.invariant.takes honest start s task later is_open described u) in
     let keys : key_columns_view c.keys.result.now ≡ s.table.keys = c.keys.ensures.are ∙ ap (λ (r : Root). r.keys) (described ∙ sym (ap (λ (st : Core g.row.D.Denot). root_of st.manifest) at.invariant.same)) ∙ way.parts.written.wrote.shows.keys in
-    let rest_is = c.in_ok-rest.ensures.is ∙ ap (λ (ks : List KeyColumn). row_without_keys ks row) keys in
+    let rest_is = c.in_ok-rest.ensures.stands ∙ ap (λ (ks : List KeyColumn). row_without_keys ks row) keys in
     let fits = subst (λ (x : Row). fits_each (schema_of at.waiting.rows) x ≡ true) (sym rest_is) (row_fits g.D.Disk.state start s c.args.job task mid files at.waiting row (others ++ later) way) in
     let e = c.in_err-push.field-0.0 in
     refused (λ (r : Result (Unit {0}) Refusal). StaysUnderWay g.D.Disk.state start mid s c.args.job task files (record at.waiting { rows = c.push.new.self }) later 1 r) c.from_residual-in_err-push.result _ c.from_residual-in_err-push.ensures.1
@@ -78,7 +78,7 @@ returns-in_err-write_full-clause-takes g c honest start s task later is_open des
     let way = subst (λ (xs : List CodeRow). AreUnderWay g.D.Disk.state start mid s c.args.job task files at.waiting (rows_view xs ++ later) 1) c.in-Some.ensures.steps.0 (at.invariant.takes honest start s task later is_open described u) in
     let here = described ∙ sym (ap (λ (st : Core g.row.D.Denot). root_of st.manifest) at.invariant.same) in
     let keys : key_columns_view c.keys.result.now ≡ s.table.keys = c.keys.ensures.are ∙ ap (λ (r : Root). r.keys) here ∙ way.parts.written.wrote.shows.keys in
-    let rest_is = c.in_ok-rest.ensures.is ∙ ap (λ (ks : List KeyColumn). row_without_keys ks row) keys in
+    let rest_is = c.in_ok-rest.ensures.stands ∙ ap (λ (ks : List KeyColumn). row_without_keys ks row) keys in
     let waits = row_waits g.D.Disk.state start s c.args.job task mid files at.waiting row (others ++ later) way fresh c.in_ok-push.ensures.same_schema
     (λ taken held. subst (λ (x : Row). holds fresh (taken ++ x ∷ [])) rest_is (c.in_ok-push.ensures.stands taken held)) in
     refused (λ (r : Result (Unit {0}) Refusal). StaysUnderWay g.D.Disk.state start new s c.args.job task (handles_view c.write_full.new.written.items) c.write_full.new.waiting later 1 r) c.from_residual-in_err-write_full.result _ c.from_residual-in_err-write_full.ensures.1
@@ -107,7 +107,7 @@ loop-row-preserved g c =
           let way = subst (λ (xs : List CodeRow). AreUnderWay g.D.Disk.state start mid s c.args.job task files at.waiting (rows_view xs ++ later) 1) c.in-Some.ensures.steps.0 (so_far.takes honest start s task later is_open described u) in
           let here = described ∙ sym (ap (λ (st : Core g.row.D.Denot). root_of st.manifest) so_far.same) in
           let keys : key_columns_view c.keys.result.now ≡ s.table.keys = c.keys.ensures.are ∙ ap (λ (r : Root). r.keys) here ∙ way.parts.written.wrote.shows.keys in
-          let rest_is = c.in_ok-rest.ensures.is ∙ ap (λ (ks : List KeyColumn). row_without_keys ks row) keys in
+          let rest_is = c.in_ok-rest.ensures.stands ∙ ap (λ (ks : List KeyColumn). row_without_keys ks row) keys in
           let waits = row_waits g.D.Disk.state start s c.args.job task mid files at.waiting row (others ++ later) way fresh c.in_ok-push.ensures.same_schema
           (λ taken held. subst (λ (x : Row). holds fresh (taken ++ x ∷ [])) rest_is (c.in_ok-push.ensures.stands taken held)) in
           done.ensures.writes (so_far.honest.0 honest) start s task (others ++ later) is_open here waits;
