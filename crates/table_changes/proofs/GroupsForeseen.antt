@@ -19,12 +19,11 @@ use Rattle.table_commits.specs.Filling.{AreBuffers, rows_waiting, IsFew, HasSize
 use Rattle.table_commits.proofs.KeyOrder.{to_front, same_behind}
 use Rattle.table_commits.proofs.GroupsByKey.{all_full}
 use Rattle.table_commits.proofs.RowsFillGroups.{group_in}
-use Rattle.table_commits.proofs.WaitingRows.{rows_append, waiting_append, rising_with, joined, keyed_rows, below_waits, same_key_lists}
+use Rattle.table_commits.proofs.WaitingRows.{rows_append, waiting_append, rising_with, joined, keyed_rows, below_waits, same_key_lists, told, same_length}
 use Rattle.table_commits.proofs.RowsOfOneKey.{IsLoaded}
 use Rattle.table_commits.proofs.OneRowMore.{loaded, one_longer}
-use Rattle.table_changes.proofs.RowsThatFillNoGroup.{Added, add, Follows, follows_none, follows_waiting, follows_filled, fills_none, fills_one, same_rests}
-use Rattle.table_commits.proofs.TakenRows.{told, same_length}
-use Rattle.table_changes.proofs.GatheredGroupsWritten.{waits_some}
+use Rattle.table_commits.proofs.RowsThatFillNoGroup.{Added, add, Follows, follows_none, follows_waiting, follows_filled, fills_none, fills_one, same_rests}
+use Rattle.table_commits.proofs.GatheredGroupsWritten.{waits_some}
 
 -- ---- numbers
 

@@ -2,8 +2,6 @@ mod GatheredChecks
 mod RowsGathered
 pub mod AppendChecks
 mod NotInDoubt
-mod RowsThatFillNoGroup
-mod GatheredGroupsWritten
 pub mod AppendEnds
 mod ImportEnds
 mod OpenOverMoreColumns

@@ -36,13 +36,13 @@ use Rattle.table_commits.specs.Acting.{WroteTo}
 use Rattle.table_state.specs.Buffers.{buffer}
 use Rattle.table_commits.specs.Filling.{HasWritten, IsBuffer, written_group}
 use Rattle.table_changes.specs.Removing.{Puts, WhyNotPut, goes, comes}
+use Rattle.table_commits.proofs.WaitingRows.{same_length}
 use Rattle.table_commits.proofs.OneFileMore.{failed_since as failed_on, wrote_so, one_more}
 use Rattle.table_commits.proofs.SparedDisks.{read_spares, spares_on}
 use Rattle.table_commits.proofs.StoredStays.{jobs_on, hold_same}
 use Rattle.table_commits.proofs.PartFilesWritten.{same_use}
 use Rattle.table_commits.proofs.AfterCleanings.{still}
 use Rattle.table_reads.proofs.FetchesGoOn.{stored_left}
-use Rattle.table_commits.proofs.TakenRows.{same_length}
 use Rattle.table_commits.proofs.RowsWithoutKeys.{stored_rows, stored_fit}
 
 module _ {D : Type 0} (state : D → DiskState) (start now : Core D) (s : State) (is_open : s.closed ≡ false) where

@@ -11,28 +11,13 @@ use Rattle.schema.specs.Shape.{Fields}
 use Rattle.schema.specs.Fits.{fits_each, RowsFit}
 use Rattle.assemble.specs.RowSources.{TakesRowTo}
 use Rattle.shred.specs.inner.Opening.{schema_token, rows_token}
-use Rattle.footer.specs.declared.options.WriteOptions.{WriteOptions}
 use Rattle.gather.specs.declared.gathered.Gathered.{Gathered}
 use Rattle.gather.specs.GatheredRows.{holds, schema_of, gathered_shows, BeginsRow, ShowsRow}
-use Rattle.manifest.specs.Groups.{Root}
 use Rattle.table.specs.Calls.{refused}
 use Rattle.table.specs.Refusing.{is_failure}
-use Rattle.table_commits.specs.Gathering.{AreGatheredFor, KeepsTable, GathersNext, AreOnTheWay}
+use Rattle.table_commits.specs.Gathering.{GathersNext, AreOnTheWay}
 
--- rows that are gathered for a table stay so
-pub keeps_on : {old mid new : Gathered} → KeepsTable old mid → KeepsTable mid new → KeepsTable old new
-keeps_on a b = record { schema = b.schema ∙ a.schema; columns = b.columns ∙ a.columns; size = b.size ∙ a.size }
-
--- what is gathered for a table goes on to be
-pub kept_table : {root : Root} {options : WriteOptions} {old new : Gathered} → AreGatheredFor root options old → KeepsTable old new → AreGatheredFor root options new
-kept_table t k = record { schema = k.schema ∙ t.schema; columns = k.columns ∙ t.columns; size = k.size ∙ t.size }
-
--- a row that fits is refused only for memory
-pub memory_else : (e : Refusal) → HasCause (λ f. f ≡ RowShape) e → (e ≡ RowShape → ⊥) → HasCause (λ _. ⊥) e
-memory_else Memory which fits = tt
-memory_else e which fits = fits which
-
--- such a refusal does not tell of a failed disk
+-- the refusal of a row that does not fit does not tell of a failed disk
 pub shape_calm : (e : Refusal) → HasCause (λ f. f ≡ RowShape) e → is_failure (refused e) ≡ true → ⊥
 shape_calm Memory which h = false≢true h
 shape_calm RowShape which h = false≢true h
@@ -41,16 +26,6 @@ shape_calm e which h = absurd (let is : e ≡ RowShape = which in cc)
 -- nor is it in doubt
 pub shape_sure : (e : Refusal) → HasCause (λ f. f ≡ RowShape) e → e ≡ InDoubt → ⊥
 shape_sure e which is = let shape : InDoubt ≡ RowShape = subst (λ (x : Refusal). HasCause (λ f. f ≡ RowShape) x) is which in cc
-
--- memory is such a refusal
-pub shape_or_memory : (e : Refusal) → HasCause (λ _. ⊥) e → HasCause (λ f. f ≡ RowShape) e
-shape_or_memory Memory h = tt
-shape_or_memory e h = absurd h
-
--- no other cause
-pub is_memory : (e : Refusal) → HasCause (λ _. ⊥) e → e ≡ Memory
-is_memory Memory h = refl
-is_memory e h = absurd h
 
 -- a row that was shown and ended
 pub next_gathered : (S T : List ValueTrees → Type 0) (old begun shown new : Gathered) → ((rows : List ValueTrees) → holds old rows → BeginsRow begun (schema_of old) rows) → TakesRowTo S T (gathered_shows begun) (gathered_shows shown) (Ok true)

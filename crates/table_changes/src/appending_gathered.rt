@@ -5,8 +5,8 @@ ghost use Rattle.schema.specs.Keys.{key_column_view, key_columns_view};
 ghost use Rattle.vault.specs.Calls.{HasFailed};
 ghost use Rattle.gather.specs.GatheredRows.{holds};
 ghost use Rattle.gather.specs.KeyBuffers.{HoldGroups};
-ghost use Rattle.manifest.specs.Groups.{root_of, handles_view};
-ghost use Rattle.manifest.specs.Root.{CanHave, stored_of};
+ghost use Rattle.manifest.specs.Groups.{root_of};
+ghost use Rattle.manifest.specs.Root.{stored_of};
 ghost use Rattle.table.specs.Table.{Row as TableRow};
 ghost use Rattle.table_commits.specs.Gathering.{AreGatheredFor};
 ghost use Rattle.table.specs.State.{State};
@@ -15,21 +15,17 @@ ghost use Rattle.table.specs.Checks.{fault};
 ghost use Rattle.table.specs.Refusing.{is_failure};
 ghost use Rattle.table.specs.Views.{answered};
 ghost use Rattle.table_state.specs.Stands.{Stands};
-ghost use Rattle.table_state.specs.Promises.{Acts, ActsFrom, HasCause, StaysClosed, ClosesInDoubt, IsSure, LeavesTable, TouchesTable};
-ghost use Rattle.table_commits.specs.Filling.{HasWritten, AreFine, EndsWith};
+ghost use Rattle.table_state.specs.Promises.{Acts, ActsFrom, HasCause, StaysClosed, ClosesInDoubt, LeavesTable, TouchesTable};
 
 use crate::comparing::same_schema;
 use crate::root_limit::is_beyond_root;
 use bits::{R, Refusal};
 use disk::Disk;
 use gather::{Gathered, KeyBuffer};
-use manifest::Group;
 use planning::next_after;
 use schema::KeyColumn;
 use std::alloc::Global;
-use std::rc::Rc;
-use table::JobId;
-use table_commits::{commit_version, with_new, write_gathered};
+use table_commits::{commit_version, with_new, write_groups};
 use table_state::{Core, MOST_NUMBERS};
 
 /// Appends the rows that were gathered, in a commit of its own: Ok(n), of n rows. Of no rows it writes nothing. It is
@@ -115,30 +111,6 @@ fn append_groups<D: Disk>(
     let next = next_after(store.manifest.next(), written.as_slice());
     commit_version(store, alloc, groups, next, None)?;
     Ok(count as u64)
-}
-
-/// Writes the groups of rows that were gathered, for a job or for none, one after another. Gives the groups in the order
-/// of their numbers.
-fn write_groups<D: Disk>(
-    store: &mut Core<D>,
-    alloc: Global,
-    job: Option<JobId>,
-    groups: Vec<KeyBuffer<'_>>,
-) -> R<Vec<Rc<Group>>>
-    ensures writes { (D.state store.old.vault.disk).honest → (start : Core D) (s : State) (rows : List TableRow) → s.closed ≡ false → AreFine s rows
-        → HoldGroups s.table.keys s.options.group_rows (stored_of (root_of store.old.manifest)) rows groups.entry.items
-        → HasWritten D.state start store.old s job [] [] → store.old.next_group ≡ s.next_group → EndsWith D.state start store.new s job rows result }
-    ensures fit { IfOk result (λ written. CanHave (root_of store.old.manifest) (handles_view written.items)) }
-    ensures same { store.new ≡ record store.old { vault = store.new.vault; snapshots = store.new.snapshots; next_group = store.new.next_group } }
-    ensures sure { IsSure result }
-    ensures counts { (D.state store.old.vault.disk).failures ≤ (D.state store.new.vault.disk).failures }
-    ensures honest { (D.state store.old.vault.disk).honest ↔ (D.state store.new.vault.disk).honest }
-{
-    let mut written = Vec::new(alloc);
-    for group in groups {
-        write_gathered(store, alloc, job, &mut written, group)?;
-    }
-    Ok(written)
 }
 
 /// Whether two lists of key columns are the same.

@@ -18,23 +18,7 @@ use gather::Gathered;
 use manifest::Manifest;
 use schema::Row;
 use std::alloc::Global;
-
-/// No rows yet that are gathered for a table, in groups of the size that the options say. It fails only when out of memory.
-pub fn begin_gathering<'a>(
-    alloc: Global,
-    table: &'a Manifest,
-    options: &WriteOptions,
-) -> R<Gathered<'a>>
-    ensures begins { IfOk result (λ g. holds g []) }
-    ensures table { IfOk result (AreGatheredFor (root_of table.now) options.now) }
-    ensures which { RefusedMemoryOnly result }
-{
-    // For the proof: what is known of the schema.
-    let _ = table.schema().leaves();
-    let size = options.group_rows as usize;
-    let gathered = Gathered::new(alloc, table.schema(), table.keys(), table.stored(), size)?;
-    Ok(gathered)
-}
+use table_commits::{begin_gathering, push_rows};
 
 /// The rows of a list, gathered for a table that they fit. Refused RowShape for one that does not.
 pub(crate) fn gather_rows<'a>(
@@ -49,9 +33,7 @@ pub(crate) fn gather_rows<'a>(
     ensures which { RefusedOnly (λ e. e ≡ Refusal.RowShape) result }
 {
     let mut gathered = begin_gathering(alloc, table, options)?;
-    for row in rows {
-        gathered.push(row)?;
-    }
+    push_rows(&mut gathered, rows)?;
     Ok(gathered)
 }
 

@@ -18,6 +18,7 @@ pub use appending::append;
 pub use appending_gathered::append_gathered;
 pub use columns::add_column;
 pub use dropping::remove_groups;
-pub use gathered_rows::{begin_gathering, gather_file};
+pub use gathered_rows::gather_file;
 pub use importing::import;
 pub use removing::remove;
+pub use table_commits::begin_gathering;

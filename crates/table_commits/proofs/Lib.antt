@@ -29,7 +29,6 @@ pub mod KeyOrder
 pub mod GroupsInOrder
 pub mod FineRows
 pub mod DisksLeftAlone
-mod WaitingPlaces
 pub mod GroupsByKey
 pub mod OneFileMore
 pub mod WaitingRows
@@ -37,7 +36,9 @@ pub mod RowsOfOneKey
 pub mod OneRowMore
 pub mod RowsFillGroups
 pub mod RestsByKey
-pub mod TakenRows
+pub mod RowsThatFillNoGroup
+pub mod GatheredGroupsWritten
+pub mod RowsGathered
 pub mod DistinctNumbers
 pub mod NumbersOfJobs
 mod NothingOpen

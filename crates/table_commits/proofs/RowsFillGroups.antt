@@ -69,13 +69,6 @@ module _ {D : Type 0} (state : D → DiskState) (start mid : Core D) (s : State)
     room = omega (arith, same);
   }
 
-  pub short_of_memory : (Part : List Row → Type 0) (rests : List Group) (waiting : List KeyRows) (given more : List Row) → Filled state start mid s job files rests waiting given → IsStopped state start mid s Part (given ++ more) Memory
-  short_of_memory Part rests waiting given more f = record {
-    wrote = f.written.wrote;
-    no_more = let r = f.room in let l = length-append given more in omega (arith, r, l);
-    why = tt;
-  }
-
   module _ (given : List Row) (k : Key) (before : List KeyRows) (held : List Row) (after : List KeyRows) where
     same_length : (ks : List KeyColumn) (key : Key) (xs ys : List Row) → AreRowsOf ks key xs ys → length xs ≡ length ys
     same_length ks key [] [] h = refl

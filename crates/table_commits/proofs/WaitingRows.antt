@@ -1,14 +1,15 @@
 -- Rows that wait, whole and as they are stored, with keys that rise.
-use Rattle.std.proofs.Common.{◌≡◌, Bool, true, false, List, [], ◌∷◌, ◌++◌, refl, sym, ◌∙◌, ap, subst, append_assoc}
+use Rattle.std.proofs.Common.{◌≡◌, suc, Bool, true, false, List, [], ◌∷◌, ◌++◌, length, refl, sym, ◌∙◌, ap, subst, append_assoc}
 use Rattle.std.specs.List.{AllByRecursion}
 use Rattle.lists.proofs.Lists.{all_append}
 use Rattle.schema.specs.Shape.{Fields}
 use Rattle.schema.specs.Keys.{KeyColumn, IsRowOf, AreRowsOf, key_of_row}
+use Rattle.partition.specs.Folders.{CanPartition}
 use Rattle.partition.specs.Splitting.{KeyRows}
 use Rattle.partition.specs.Order.{is_same_key}
-use Rattle.partition.proofs.SameKeys.{same_key}
+use Rattle.partition.proofs.SameKeys.{same_key, equal_key}
 use Rattle.table.specs.Table.{Row, Key, Group, rows, IsRowIn}
-use Rattle.table_state.specs.Buffers.{keys_in, IsRising, AreLow, AreHigh}
+use Rattle.table_state.specs.Buffers.{keys_in, IsRising, AreLow, AreHigh, AreTold}
 use Rattle.table_commits.specs.Filling.{AreBuffers, rows_waiting}
 use Rattle.table_commits.proofs.KeyOrder.{lt, lt_not_itself, Keyed, part_of, part_append, part_none}
 
@@ -129,3 +130,18 @@ rows_of_more keys k [] [] x r a h = (h, tt)
 rows_of_more keys k (s ∷ stored) (g ∷ given) x r a h = (a.0, rows_of_more keys k stored given x r a.1 h)
 rows_of_more keys k [] (g ∷ given) x r a h = absurd a
 rows_of_more keys k (s ∷ stored) [] x r a h = absurd a
+
+-- a key that is among those that wait is told from the others
+pub told : (schema : Fields) (keys : List KeyColumn) (k : Key) (ws vs : List KeyRows) → CanPartition keys k → AreBuffers schema keys ws vs → AreTold k ws
+told schema keys k [] [] can z = tt
+told schema keys k (w ∷ ws) (v ∷ vs) can z =
+    (λ e. equal_key keys w.key k (subst (λ (j : Key). CanPartition keys j) z.0.key_is z.0.can).values can.values e, told schema keys k ws vs can z.1)
+told schema keys k [] (v ∷ vs) can z = absurd z
+told schema keys k (w ∷ ws) [] can z = absurd z
+
+-- as many wait as they are whole
+pub same_length : (ks : List KeyColumn) (key : Key) (xs ys : List Row) → AreRowsOf ks key xs ys → length xs ≡ length ys
+same_length ks key [] [] h = refl
+same_length ks key (x ∷ xs) (y ∷ ys) h = ap suc (same_length ks key xs ys h.1)
+same_length ks key [] (y ∷ ys) h = absurd h
+same_length ks key (x ∷ xs) [] h = absurd h

@@ -14,6 +14,7 @@ use Rattle.disk.specs.State.{State as DiskState}
 use Rattle.vault.specs.Calls.{HasFailed}
 use Rattle.partition.specs.Folders.{CanPartition}
 use Rattle.partition.specs.Splitting.{KeyRows}
+use Rattle.gather.specs.Groups.{AreRests}
 use Rattle.manifest.specs.Groups.{Group as FileGroup, handles_view}
 use Rattle.manifest.specs.Records.{IsGroup}
 use Rattle.snapshots.specs.State.{job_is_open}
@@ -143,16 +144,6 @@ IsWhole s part = length part ≡ s.options.group_rows
 abbrev pub IsAny : List Row → Type 0
 IsAny part = Unit {0}
 
--- Of the rows given so far full groups are written, and the others wait. A Limit came of a full group.
-abbrev pub Takes : {D T : Type 0} → (D → DiskState) → Core D → Core D → State → Option ℕ → List FileGroup → List KeyRows → List Row → Result T Refusal → Type 0
-Takes state start new s job files waiting given (Ok x) = Filled state start new s job files [] waiting given
-Takes state start new s job files waiting given (Err e) = IsStopped state start new s (IsWhole s) given e
-
--- All rows given are written. A Limit came of any group.
-abbrev pub Ends : {D T : Type 0} → (D → DiskState) → Core D → Core D → State → Option ℕ → List FileGroup → List Row → Result T Refusal → Type 0
-Ends state start new s job files given (Ok x) = IsFilled state start new s job files given
-Ends state start new s job files given (Err e) = IsStopped state start new s IsAny given e
-
 -- rows that fit the table, with keys that can partition
 abbrev pub AreFine : State → List Row → Type 0
 AreFine s given = AllByRecursion (λ (row : Row). IsTrue (fits_each s.table.schema row) × CanPartition s.table.keys (key_of_row s.table.keys row)) given
@@ -161,3 +152,9 @@ AreFine s given = AllByRecursion (λ (row : Row). IsTrue (fits_each s.table.sche
 abbrev pub EndsWith : {D : Type 0} → (D → DiskState) → Core D → Core D → State → Option ℕ → List Row → Result (Vec (Rc CodeGroup Global) Global) Refusal → Type 0
 EndsWith state start new s job given (Ok gs) = IsFilled state start new s job (handles_view gs.items) given
 EndsWith state start new s job given (Err e) = IsStopped state start new s IsAny given e
+
+-- All full groups of the rows given are written, as the groups that are returned, and what fills none waits. A Limit came of a full
+-- group.
+abbrev pub TakesWith : {D : Type 0} → (D → DiskState) → Core D → Core D → State → Option ℕ → List Row → Result (Vec (Rc CodeGroup Global) Global) Refusal → Type 0
+TakesWith state start new s job given (Ok gs) = (rests : List KeyRows) → AreRests s.table.keys s.options.group_rows given rests → Filled state start new s job (handles_view gs.items) [] rests given
+TakesWith state start new s job given (Err e) = IsStopped state start new s (IsWhole s) given e

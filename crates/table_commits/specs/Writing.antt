@@ -103,8 +103,3 @@ abbrev pub IsPartRefusal : {D : Type 0} → Core D → Option ℕ → Key → Li
 IsPartRefusal store job key rows refusal.Device = Unit {0}
 IsPartRefusal store job key rows refusal.NoJob = job_is_open (state_of store.snapshots) job ≡ false
 IsPartRefusal store job key rows e = IsUnfitPart store key rows e
-
--- why rows are not taken: one of them does not fit
-abbrev pub IsMisfit : Fields → List Row → Refusal → Type 0
-IsMisfit fs rows refusal.RowShape = RowsFit fs rows → ⊥
-IsMisfit fs rows _ = ⊥

@@ -28,8 +28,7 @@ ghost use Rattle.table.specs.State.{State};
 ghost use Rattle.table_state.specs.Stands.{Shows};
 ghost use Rattle.table_commits.specs.Filling.{HasWritten, Adds, written_group, Goes};
 
-use crate::filling::LAST_NUMBER;
-use crate::part::{Part, put_part};
+use crate::part::{LAST_NUMBER, Part, put_part};
 use bits::{R, Refusal};
 use disk::Disk;
 use footer::{FileWriter, WriteOptions};

@@ -21,6 +21,9 @@ use std::rc::Rc;
 use table::JobId;
 use table_state::Core;
 
+/// The counter's last values are for no file.
+pub(crate) const LAST_NUMBER: u64 = u64::MAX - 1;
+
 /// A part file that is ready to be written.
 #[derive(Debug, Drop)]
 pub struct Part {

@@ -19,8 +19,7 @@ ghost use Rattle.table.specs.State.{State};
 ghost use Rattle.table_state.specs.Stands.{Shows};
 
 use crate::buffered_part::{buffered_part, write_buffered};
-use crate::filling::LAST_NUMBER;
-use crate::part::{Part, put_part};
+use crate::part::{LAST_NUMBER, Part, put_part};
 use bits::{R, Refusal};
 use disk::Disk;
 use footer::WriteOptions;

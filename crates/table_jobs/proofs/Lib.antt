@@ -7,6 +7,11 @@ mod CompletedRows
 mod WorkReplaced
 mod WaitingGoesOn
 mod StageGoesOn
+mod FullGroupsCounted
+mod RowsRegathered
+mod RestsTaken
+mod WholeRows
+mod RowsOfColumns
 mod StageEnds
 mod StagePasses
 mod JobsBesideCommits

@@ -49,7 +49,7 @@ source_numbers_of disk s job place (f ∷ fs) [] z = absurd z
 
 -- ---- one run
 
-lengths_same : {A B : Type 0} (R : A → B → Type 0) (xs : List A) (ys : List B) → AllZip R xs ys → length xs ≡ length ys
+pub lengths_same : {A B : Type 0} (R : A → B → Type 0) (xs : List A) (ys : List B) → AllZip R xs ys → length xs ≡ length ys
 lengths_same R [] [] z = refl
 lengths_same R (x ∷ xs) (y ∷ ys) z = ap suc (lengths_same R xs ys z.1)
 lengths_same R [] (y ∷ ys) z = absurd z

@@ -1,21 +1,23 @@
 -- Rows that are staged: the writing begins, and the job has them.
 use Rattle.std.proofs.Common.{◌≡◌, ◌≤◌, ◌+◌, ◌*◌, ℕ, Bool, true, false, not, ◌&&◌, List, [], ◌∷◌, ◌++◌, map, flat_map, length, take, drop, Option, Some, None, refl, sym, ◌∙◌, ap, subst, arith, inl, inr, append_assoc, add-mul as both_times}
-use Rattle.std.specs.Prelude.{Vec, ◌==◌}
+use Rattle.std.specs.Prelude.{Vec, ◌==◌, IsTrue}
 use Rattle.std.specs.List.{AllByRecursion, AllZip, list_all}
 use Rattle.std.specs.declared.alloc.Global.{Global}
 use Rattle.lists.proofs.Lists.{all_append, all_weaker as all_so}
 use Rattle.bits.specs.declared.refusal.Refusal.{Refusal}
 use Rattle.bits.specs.declared.refusal.Refusal.TheVariants.{Limit, Device, Memory}
 use Rattle.schema.specs.Cutting.{is_among}
+use Rattle.schema.specs.Fits.{fits_each}
 use Rattle.schema.specs.Keys.{KeyColumn, AreDistinct, key_of_row, without_keys}
 use Rattle.disk.specs.State.{State as DiskState}
 use Rattle.vault.specs.Calls.{HasFailed}
+use Rattle.partition.specs.Folders.{CanPartition}
 use Rattle.partition.specs.Splitting.{KeyRows, key_rows_view}
 use Rattle.manifest.specs.Groups.{Group as FileGroup, handles_view, numbers_of}
 use Rattle.manifest.specs.Records.{IsGroup}
 use Rattle.snapshots.specs.State.{Pins, file_of, is_among as is_file_among, open_at as pinned_at}
 use Rattle.snapshots.specs.Views.{state_of}
-use Rattle.table.specs.Table.{Row, Key, Group, rows}
+use Rattle.table.specs.Table.{Row, Key, Group, rows, IsRowIn}
 use Rattle.table.specs.InOrder.{in_order}
 use Rattle.table.specs.State.{State, appending, changed_at}
 use Rattle.table.specs.Checks.{fault}
@@ -34,7 +36,7 @@ use Rattle.table_state.specs.Stands.{AreStored, AreWaiting, AreWritten, ShowsApp
 use Rattle.table_commits.specs.Writing.{IsHeldFor, counted}
 use Rattle.table_commits.specs.Acting.{WroteTo}
 use Rattle.table_state.specs.Buffers.{keys_in, IsRising}
-use Rattle.table_commits.specs.Filling.{HasWritten, HasSize, Filled, IsStopped, IsWhole, WhyStopped, rows_waiting}
+use Rattle.table_commits.specs.Filling.{HasWritten, HasSize, Filled, IsStopped, IsWhole, WhyStopped, AreBuffers, AreFine, IsFew, rows_waiting}
 use Rattle.table_jobs.specs.Completing.{completed_buffers, with_work}
 use Rattle.table_state.specs.Promises.{ActsFrom}
 use Rattle.table_commits.proofs.CommitsFromParts.{refusals_act}
@@ -55,6 +57,17 @@ use Rattle.table_jobs.proofs.StageGoesOn.{Held, held_in, sized, all_sized, keyed
 use Rattle.table_commits.proofs.StoredStays.{part_below, Any, all_any, stored_on}
 use Rattle.table_commits.proofs.WaitingRows.{rows_append, same_key_lists}
 use Rattle.table_commits.proofs.FilesSoFar.{wrote_nothing}
+
+-- rows that wait whole fit the table, and their keys can partition
+all_fine : (s : State) (ws vs : List KeyRows) → AreBuffers s.table.schema s.table.keys ws vs → AreFine s (rows_waiting vs)
+all_fine s [] [] z = tt
+all_fine s (w ∷ ws) (v ∷ vs) z = all_append (λ (row : Row). IsTrue (fits_each s.table.schema row) × CanPartition s.table.keys (key_of_row s.table.keys row)) v.rows (rows_waiting vs) (each v.rows z.0.rows_in) (all_fine s ws vs z.1)
+  where
+    each : (rs : List Row) → AllByRecursion (IsRowIn s.table.schema s.table.keys v.key) rs → AreFine s rs
+    each [] a = tt
+    each (r ∷ rs) a = ((a.0.fits, subst (λ (k : Key). CanPartition s.table.keys k) (sym a.0.keyed) z.0.can), each rs a.1)
+all_fine s [] (v ∷ vs) z = absurd z
+all_fine s (w ∷ ws) [] z = absurd z
 
 module _ {D : Type 0} (state : D → DiskState) (old : Core D) (s : State) (stands : Stands state old s) (is_open : s.closed ≡ false) (n : ℕ) (x : OpenJob) (a : Appending)
     (there : job_at n old.jobs.items ≡ Some x) (is : x.work ≡ Append a) where
@@ -103,23 +116,24 @@ module _ {D : Type 0} (state : D → DiskState) (old : Core D) (s : State) (stan
     distinct = tt;
   }
 
-  pub filled : Filled state old old s (Some n) [] [] (completed_buffers (without_keys keys s.table.schema) waiting) wait
-  filled =
-      let z = held.shows.are_waiting in
-      let same = begin_rows keys s.table.schema disk s.next_group size s.had waiting held.shows.waiting z in
-      record {
-        fulls = [];
-        whole = whole_of waiting held.shows.waiting;
-        written = starts;
-        each = tt;
-        full = tt;
-        up_to = tt;
-        waits = begin_buffers keys s.table.schema disk s.next_group size s.had waiting held.shows.waiting z;
-        few = begin_few keys s.table.schema disk s.next_group size s.had waiting held.shows.waiting z;
-        rising = subst (λ (ks : List Key). IsRising ks) (sym (begin_keys keys s.table.schema disk s.next_group size s.had waiting held.shows.waiting z)) held.shows.rising;
-        all = ap (in_order row_key) same;
-        room = (let e = stands.shows.next_group in let l = ap (λ (rs : List Row). length rs) same in omega (arith, e, l));
-      }
+  -- the rows that wait, whole, under their keys
+  abbrev pub whole : List KeyRows
+  whole = whole_of waiting held.shows.waiting
+
+  pub whole_are : AreBuffers s.table.schema keys (completed_buffers (without_keys keys s.table.schema) waiting) whole
+  whole_are = begin_buffers keys s.table.schema disk s.next_group size s.had waiting held.shows.waiting held.shows.are_waiting
+
+  pub whole_few : AllByRecursion (IsFew size) whole
+  whole_few = begin_few keys s.table.schema disk s.next_group size s.had waiting held.shows.waiting held.shows.are_waiting
+
+  pub whole_rising : IsRising (keys_in whole)
+  whole_rising = subst (λ (ks : List Key). IsRising ks) (sym (begin_keys keys s.table.schema disk s.next_group size s.had waiting held.shows.waiting held.shows.are_waiting)) held.shows.rising
+
+  pub whole_rows : rows_waiting whole ≡ wait
+  whole_rows = begin_rows keys s.table.schema disk s.next_group size s.had waiting held.shows.waiting held.shows.are_waiting
+
+  pub whole_fine : AreFine s (rows_waiting whole)
+  whole_fine = all_fine s (completed_buffers (without_keys keys s.table.schema) waiting) whole whole_are
 
   -- ---- what was staged and what is given, by key
 

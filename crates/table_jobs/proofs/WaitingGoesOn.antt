@@ -15,7 +15,7 @@ use Rattle.table_state.specs.Stands.{AreWaiting}
 use Rattle.table_state.specs.Buffers.{keys_in}
 use Rattle.table_commits.specs.Filling.{IsBuffer, AreBuffers, IsFew, rows_waiting}
 use Rattle.table_jobs.specs.Completing.{completed_rows, completed_buffers}
-use Rattle.table_commits.proofs.TakenRows.{same_length}
+use Rattle.table_commits.proofs.WaitingRows.{same_length}
 use Rattle.table_reads.proofs.WholeRows.{whole_width}
 
 padded_full : (fs : Fields) (row : ValueTrees) → count_fields fs ≤ width row → padded fs row ≡ row

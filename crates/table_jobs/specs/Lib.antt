@@ -1,3 +1,5 @@
 pub mod Staging
 pub mod Completing
 pub mod Rewritten
+pub mod Regathering
+pub mod Rests

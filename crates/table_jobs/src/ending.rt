@@ -16,6 +16,7 @@ ghost use Rattle.table_state.specs.Stands.{Stands};
 ghost use Rattle.table_state.specs.Promises.{Acts, ActsFrom, HasCause, StaysClosed, ClosesInDoubt, LeavesTable, TouchesJobs, TouchesTableAndJobs};
 
 use crate::append_work::{waiting_rows, written_with};
+use crate::regathering::groups_with;
 use crate::rewritten::commit_rewrite;
 use crate::staging::finds_append;
 use bits::{R, Refusal};
@@ -26,7 +27,7 @@ use snapshots::Event;
 use std::alloc::Global;
 use std::rc::Rc;
 use table::JobId;
-use table_commits::{commit_version, let_go, plus_rows, with_new, write_rest};
+use table_commits::{commit_version, let_go, plus_rows, with_new, write_groups};
 use table_state::{Core, MOST_NUMBERS, OpenJob, Work, end_job, find_job};
 
 /// Makes a job a commit, and ends it: Ok(n), of n rows that it staged or rewrote.
@@ -80,9 +81,10 @@ fn commit_append<D: Disk>(store: &mut Core<D>, alloc: Global, job: JobId) -> R<u
 {
     // For the proof: the rows of a part file fit the table.
     manifest::rows_of_parts_fit();
-    let waiting = waiting_rows(alloc, store.jobs.as_slice(), job, store.manifest.stored())?;
-    let mut rests = Vec::new(alloc);
-    write_rest(store, alloc, Some(job), &mut rests, waiting)?;
+    let table = store.description()?;
+    let waiting = waiting_rows(alloc, store.jobs.as_slice(), job, table.stored())?;
+    let gathered = groups_with(alloc, &table, &store.options, waiting.as_slice(), &[])?;
+    let rests = write_groups(store, alloc, Some(job), gathered)?;
     let come = written_with(alloc, store.jobs.as_slice(), job, rests.as_slice())?;
     let count = plus_rows(0, come.as_slice())?;
     let groups = with_new(store, alloc, come.as_slice())?;

@@ -5,6 +5,8 @@ mod append_work;
 mod completing;
 mod ending;
 mod reading_on;
+mod regathering;
+mod rests;
 mod rewriting;
 mod rewritten;
 mod run_sources;

@@ -14,12 +14,14 @@ ghost use Rattle.table.specs.Views.{answered};
 ghost use Rattle.table_state.specs.Promises.{Acts, ActsFrom, HasCause, StaysClosed, TouchesJobs};
 
 use crate::append_work::{put_work, waiting_rows, written_with};
+use crate::regathering::groups_with;
+use crate::rests::{rests_as_rows, take_rests};
 use bits::{R, Refusal};
 use disk::Disk;
 use schema::Row;
 use std::alloc::Global;
 use table::JobId;
-use table_commits::take_rows;
+use table_commits::write_groups;
 use table_state::{Appending, Core, MOST_NUMBERS, OpenJob, Work, can_open, find_job};
 
 /// Opens an append.
@@ -87,11 +89,17 @@ fn stage_rows<D: Disk>(store: &mut Core<D>, alloc: Global, job: JobId, rows: &[R
     ensures counts { (D.state store.old.vault.disk).failures ≤ (D.state store.new.vault.disk).failures }
     ensures honest { (D.state store.old.vault.disk).honest ↔ (D.state store.new.vault.disk).honest }
 {
-    let mut waiting = waiting_rows(alloc, store.jobs.as_slice(), job, store.manifest.stored())?;
-    let mut new = Vec::new(alloc);
-    take_rows(store, alloc, Some(job), &mut new, &mut waiting, rows)?;
-    let written = written_with(alloc, store.jobs.as_slice(), job, new.as_slice())?;
-    let work = Work::Append(Appending { written, waiting });
+    let table = store.description()?;
+    let waiting = waiting_rows(alloc, store.jobs.as_slice(), job, table.stored())?;
+    let mut groups = groups_with(alloc, &table, &store.options, waiting.as_slice(), rows)?;
+    let rests = take_rests(&mut groups, store.options.group_rows as usize)?;
+    let full = write_groups(store, alloc, Some(job), groups)?;
+    let written = written_with(alloc, store.jobs.as_slice(), job, full.as_slice())?;
+    let left = rests_as_rows(alloc, rests)?;
+    let work = Work::Append(Appending {
+        written,
+        waiting: left,
+    });
     put_work(store.jobs.as_mut_slice(), job, work);
     Ok(())
 }

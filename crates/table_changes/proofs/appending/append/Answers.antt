@@ -14,7 +14,8 @@ use Rattle.table_state.specs.Promises.{ActsFrom}
 use Rattle.table_commits.proofs.UnchangedRefusals.{acts_shut}
 use Rattle.table_changes.proofs.AppendChecks.{columns, is_full, has_row_fault, out_of_memory}
 use Rattle.table_changes.proofs.GatheredChecks.{fit_without_fault}
-use Rattle.table_changes.proofs.RowsGathered.{is_memory, shape_calm, shape_sure}
+use Rattle.table_changes.proofs.RowsGathered.{shape_calm, shape_sure}
+use Rattle.table_commits.proofs.RowsGathered.{is_memory}
 use Rattle.table_changes.proofs.NotInDoubt.{passed_shut}
 use Rattle.table_changes.proofs.appending.append.Goals as goal
 

@@ -8,7 +8,8 @@ use Rattle.footer.specs.Left.{rows_stand}
 use Rattle.gather.specs.declared.gathered.Gathered.{Gathered}
 use Rattle.gather.specs.GatheredRows.{holds}
 use Rattle.table_commits.specs.Gathering.{GathersNext}
-use Rattle.table_changes.proofs.RowsGathered.{keeps_on, none_yet, one_more, all_there}
+use Rattle.table_changes.proofs.RowsGathered.{none_yet, one_more, all_there}
+use Rattle.table_commits.proofs.RowsGathered.{keeps_on}
 use Rattle.table_changes.proofs.gathered_rows.gather_accepted.Goals as goal
 
 pub rows-init : goal.rows-init

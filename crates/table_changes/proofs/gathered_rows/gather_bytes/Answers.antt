@@ -4,7 +4,7 @@ use Rattle.schema.specs.Shape.{Fields}
 use Rattle.footer.specs.File.{FileMeans}
 use Rattle.manifest.specs.Groups.{root_of}
 use Rattle.table_commits.specs.Gathering.{IsNotRead}
-use Rattle.table_changes.proofs.RowsGathered.{is_memory, kept_table}
+use Rattle.table_commits.proofs.RowsGathered.{is_memory, kept_table}
 use Rattle.table_changes.proofs.gathered_rows.gather_bytes.Goals as goal
 
 pub returns-in_err-gathered-clause-which : goal.returns-in_err-gathered-clause-which

@@ -8,7 +8,7 @@ use Rattle.schema.specs.Shape.{Fields}
 use Rattle.footer.specs.File.{FileMeans}
 use Rattle.gather.specs.GatheredRows.{schema_of}
 use Rattle.table_commits.specs.Gathering.{IsNotRead}
-use Rattle.table_changes.proofs.RowsGathered.{is_memory}
+use Rattle.table_commits.proofs.RowsGathered.{is_memory}
 use Rattle.table_changes.proofs.ImportEnds.{file_fits}
 use Rattle.table_changes.proofs.gathered_rows.gather_file.Goals as goal
 

@@ -14,7 +14,7 @@ use Rattle.table_state.specs.Promises.{ActsFrom}
 use Rattle.table_commits.proofs.UnchangedRefusals.{acts_shut}
 use Rattle.table_changes.proofs.AppendChecks.{columns}
 use Rattle.table_changes.proofs.GatheredChecks.{no_fault, keyless, with_keys, without, no_first_fault, some_first_fault}
-use Rattle.table_changes.proofs.RowsGathered.{is_memory}
+use Rattle.table_commits.proofs.RowsGathered.{is_memory}
 use Rattle.table_changes.proofs.ImportEnds.{is_full, none_read, none_fails, row_refused, as_append, file_fits, no_room}
 use Rattle.table_changes.proofs.importing.import.Goals as goal
 
