@@ -16,7 +16,9 @@ import subprocess
 import sys
 import time
 from pathlib import Path
-from typing import NamedTuple
+from typing import Iterator, NamedTuple
+
+import together
 
 TOLD = re.compile(r"rt: must-fail (\w+)/(\S+\.edit): (.*)")
 # What `rt must-fail` says of an edit, and the outcome that this is; the first that fits.
@@ -31,6 +33,8 @@ OUTCOMES = (
 # A refusal by a limit of the prover is one. An edit that only takes a name away from a proof file
 # says nothing of the contract.
 PASSED = ("refused", "limit")
+# So many edits are tried in one check, which holds what it says of each in memory.
+MOST_TOGETHER = 12
 
 
 class Edit(NamedTuple):
@@ -172,16 +176,69 @@ class Trial:
                 subprocess.run(["cp", "-a", built, self.room / "crates" / it], check=True)
             self.copied.add(it)
 
-    def run(self, crate: str, edits: list[Edit]) -> list[Result]:
-        """Tries these edits of a crate."""
+    def run(self, crate: str, edits: list[Edit]) -> Iterator[Result]:
+        """Tries these edits of a crate: together what one check can try, and the others alone."""
         self.copy_built(crate)
+        folder = self.room / "crates" / crate
+        changes = [it for edit in edits if (it := together.change_of(folder, edit.path))]
+        only = " (only because a proof file names what the edit took away)"
+        done = set()
+        for chosen in together.rounds_of(changes, MOST_TOGETHER):
+            for name, told in self.run_together(crate, chosen):
+                edit = next(it for it in edits if it.name == name)
+                done.add(edit)
+                said = f"refused, as it must be{only if told.lacks else ''}: {told.goal}"
+                yield result_of(self.tree, edit, said)
+        others = [it for it in edits if it not in done]
+        if others:
+            yield from self.run_alone(crate, others)
+
+    def run_together(
+        self, crate: str, chosen: list[together.Change]
+    ) -> Iterator[tuple[str, together.Told]]:
+        """Tries these changes in one check, and gives those that it refused."""
+        folder = self.room / "crates" / crate
+        were = together.write_changes(folder, chosen)
+        paths = sorted({it.path for change in chosen for it in change.functions})
+        try:
+            words = [word for it in paths for word in ("--only", it)]
+            lines = self.told(["rt", "check", *words], folder)
+        finally:
+            for file, text in were.items():
+                file.write_text(text, encoding="utf-8")
+        undecided = []
+        for change in chosen:
+            told = together.told_of(change, lines)
+            if told:
+                yield change.name, told
+            else:
+                undecided.append(change)
+        # A function that calls one of another change has no verdict of its own.
+        if 0 < len(undecided) < len(chosen):
+            yield from self.run_together(crate, undecided)
+        elif len(undecided) > 1:
+            half = len(undecided) // 2
+            yield from self.run_together(crate, undecided[:half])
+            yield from self.run_together(crate, undecided[half:])
+
+    def run_alone(self, crate: str, edits: list[Edit]) -> Iterator[Result]:
+        """Tries each of these edits in a check of its own."""
         folder = self.room / "crates" / crate / "must-fail"
         folder.mkdir()
         for edit in edits:
             shutil.copy(edit.path, folder)
+        lines = self.told(["rt", "must-fail", crate], self.room)
+        shutil.rmtree(folder)
+        said = {(it[1], it[2]): it[3] for it in map(TOLD.match, lines) if it}
+        for edit in edits:
+            what = said.get((crate, edit.path.name), f"NOT TRIED: {lines[-1]}")
+            yield result_of(self.tree, edit, what)
+
+    def told(self, words: list[str], folder: Path) -> list[str]:
+        """What a command prints, in a folder of the copy."""
         ran = subprocess.run(
-            ["rt", "must-fail", crate],
-            cwd=self.room,
+            words,
+            cwd=folder,
             stdout=subprocess.PIPE,
             stderr=subprocess.STDOUT,
             stdin=subprocess.DEVNULL,
@@ -189,13 +246,7 @@ class Trial:
             errors="replace",
             check=False,
         )
-        shutil.rmtree(folder)
-        said = {(it[1], it[2]): it[3] for it in map(TOLD.match, ran.stdout.split("\n")) if it}
-        missing = ran.stdout.strip().split("\n")[-1]
-        return [
-            result_of(self.tree, it, said.get((crate, it.path.name), f"NOT TRIED: {missing}"))
-            for it in edits
-        ]
+        return ran.stdout.strip().split("\n")
 
 
 def words_of(words: list[str]) -> argparse.Namespace:
@@ -244,7 +295,7 @@ def main(words: list[str]) -> int:
             results[crate, result.name] = result
             outcomes[result.outcome] += 1
             print(f"{result.outcome:8} {crate}/{result.name}: {result.goal}", flush=True)
-        write_results(file, results)
+            write_results(file, results)
     left = outcomes.pop("left")
     print(", ".join(f"{number} {what}" for what, number in outcomes.items()) or "none was tried")
     print(f"{left} are left for another call")

@@ -13,8 +13,10 @@
 #     --most N           at most N edits of each crate, so that a large crate takes several calls
 #     --anew             tries edits that have a result, too
 #
-# It runs in a copy of what is committed, over what is proved in out/, and leaves nothing there. A crate takes about as long as its
-# proof if out/ has nothing of it, and half a minute more for each edit. The last line is `N passed, M failed`.
+# It runs in a copy of what is committed, over the libraries that are built in out/, and leaves nothing there. Edits in the bodies of
+# different functions are tried in one check of these functions, up to twelve at a time. An edit that stands elsewhere, or that such
+# a check does not refuse in its own function, is tried alone by `rt must-fail`, which begins with a check of the whole crate. The
+# last line is `N passed, M failed`.
 top=$(CDPATH='' cd -- "$(dirname -- "$0")/../.." && pwd) || exit 1
 . "$top/bench/tools/usage.sh"
 . "$top/prebuilt/sources.sh"
