@@ -69,8 +69,9 @@ class Group:
 class Dataset:
     """A table in a folder. `pqds.open` and `pqds.create` make one.
 
-    Each method that changes the table is one commit: all of it is made, or nothing. A refusal is an exception of
-    `pqds.Refused`, and leaves the table as it was; after `pqds.InDoubt` the change is made as a whole or not at all.
+    Each method that changes the table, except `run`, is one commit: all of it is made, or nothing. A refusal is an
+    exception of `pqds.Refused`, and leaves the table as it was. After `pqds.InDoubt` the change is made as a whole or
+    not at all.
 
     Nothing is kept open between the calls, so an object can be used by several threads and be sent to other processes.
     """
@@ -208,14 +209,15 @@ class Dataset:
         """Appends rows in one commit, and returns how many.
 
         With `unless`, a filter, nothing is appended if a row of the table satisfies it; then 0 is returned. No other
-        call comes between the two. So a load can be made again if only its own rows satisfy the filter.
+        change comes between the two. So a load can be made again if only its own rows satisfy the filter.
 
         `data` is a DataFrame, a `pyarrow.Table`, record batches, or dicts: a list or any iterable, which is read as the
         program takes it. Columns are taken by their names; an absent OPTIONAL one is null. `floats` names columns whose
         floats are taken as decimals, with so many places. With `raw` the dicts are as the program prints rows.
 
-        Raises `RowShape` for a row that is none of the table, `Float` for floats that are not in `floats`, and `Key`;
-        as `count` does for `unless`. If `data` raises an exception, nothing is appended.
+        Raises `RowShape` for a row that is none of the table, `Float` for a column of a DataFrame or Table with floats
+        that is not in `floats`, `NoColumn` or `Schema` for a name in `floats` that is no decimal column, and `Key`; as
+        `count` does for `unless`. If `data` raises an exception, nothing is appended.
         """
         if raw:
             return self._put(Prepared("append", ["-"], raw_parts(data)), self._filter(unless))
@@ -230,8 +232,8 @@ class Dataset:
         All of them come in, in the order of the files and in one commit, or none. The columns of a file are those of
         the table, with the keys, in their order. `unless` is that of `append`.
 
-        Raises `Schema` for other columns, `Codec` for compressed files, `Float` and `Int96` for such columns; the
-        `reason` names the file. Raises `Limit` for more files than one call can name.
+        Raises `Schema` for other columns, `Codec` for compressed files, `Float` and `Int96` for such columns; of
+        several files the `reason` names the one. Raises `Limit` for more files than one call can name.
         """
         paths = [files] if isinstance(files, (str, os.PathLike)) else files
         names = [path_word(it) for it in paths]
@@ -294,14 +296,14 @@ class Dataset:
         """Makes the calls of a script on one opening of the table, and returns the answer of each.
 
         A call is a dict, such as `{"call": "count", "filter": [("n", ">", 1)]}`; `pqds run --help` has all of them.
-        Values of rows and filters are those of Python, and so are the rows of a batch. No other command comes between
-        the calls.
+        Values of rows and filters are those of Python, and so are the rows of a batch. No other command changes the
+        table between the calls.
 
         The first call that is refused ends the script, and raises its refusal. The calls before it are made, each is a
         commit of its own; `answers` of the exception has their answers. With `stop=False` the calls after it are made
         too, and its answer has `refused`, the number, and `name`.
 
-        Raises `RowShape`, `NoColumn` or `Script` if a call is none; then no call is made.
+        Raises `RowShape`, `NoColumn`, `Unordered`, `Schema` or `Script` if a call is none; then no call is made.
         """
         fields = list(fields_of(self.schema()))
         made = [_call_json(fields, it) for it in calls]
@@ -474,8 +476,8 @@ def open(path: PathLike, *, wait: Union[bool, int] = True, **files: Unpack[FileO
 
     A call waits for another command on the table as long as it takes. With a number of seconds as `wait` it waits no
     longer for each lock, with `wait=False` not at all, and raises `Device` then. The other options are for the files
-    that its changes write: `style` is plain, dictionary, delta, lengths or split; `group_rows` the greatest number of
-    rows of a group, `page_rows` of a page, and `page_version` 1 or 2.
+    that its changes write: `style` is plain, dictionary, delta, lengths or split, for `remove` and `rewrite` also keep;
+    `group_rows` the greatest number of rows of a group, `page_rows` of a page, and `page_version` 1 or 2.
 
     Raises `NoTable` if the folder has no table, and `Device` if there is no folder.
     """
@@ -501,7 +503,8 @@ def create(
     values the rows are put into folders. `floats` names columns of floats that become decimals with so many places.
     The other options are those of `open`.
 
-    Raises `Exists` if there is a table, `Key` for keys that cannot be, `Schema` and `Float` for columns that cannot be.
+    Raises `Exists` if there is a table, `NoColumn` for a name in `keys` or `required` that no column has, `Key` for
+    keys that cannot be, `Schema` and `Float` for columns that cannot be, and `Script` for JSON fields of another form.
     """
     keys = names_of(keys)
     said = with_reps(_tables.schema_json(schema, floats or {}), keys, required)
@@ -516,7 +519,10 @@ def names_of(keys: Union[str, Sequence[str]]) -> List[str]:
 
 
 def file_schema(file: PathLike) -> List[JsonField]:
-    """The columns of a Parquet file, as the JSON fields that `create` takes. Raises `Refused` as `decode` does."""
+    """The columns of a Parquet file, as the JSON fields that `create` takes.
+
+    Raises `Refused` as `decode` does for the footer; the columns of a compressed file are returned.
+    """
     return list(json.loads(call("schema", ["--", path_word(file)])))
 
 

@@ -1,7 +1,8 @@
 """The exceptions of this module.
 
 When the program refuses a call, it prints a number and a name, such as `refused 14 RowShape`. Each name is a class
-derived from `Refused`. A refused call leaves the table as it was; the one exception is `InDoubt`.
+derived from `Refused`. A refused call leaves the table as it was, except after `InDoubt`, after the calls of a script
+before the refused one, and where `reason` has `the change was committed`. A refused `write` may leave a new table.
 """
 
 from __future__ import annotations

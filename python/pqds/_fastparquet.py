@@ -35,8 +35,9 @@ def write(
     `False` leaves it out; without a word an index of its own is an error. `required` and `floats` are those of
     `pqds.create`, the other options those of `pqds.open`.
 
-    Raises what `create` and `append` raise, and `ValueError` if `append` is neither True nor False. The rows are looked at before the table is made. If the program refuses one
-    all the same, as for a key that cannot name a folder, the new table stays, without rows.
+    Raises what `create` and `append` raise, and `ValueError` if `append` is neither True nor False. The rows are looked
+    at before the table is made. If the program refuses one all the same, as for a key that cannot name a folder, the
+    new table stays, without rows.
     """
     if not isinstance(append, bool):
         raise ValueError(f"append: expected True or False, found {append!r}")

@@ -21,7 +21,8 @@ if TYPE_CHECKING:
 def decode(file: PathLike, *, limit: Optional[int] = None, raw: bool = False) -> Iterator[Dict[str, Any]]:
     """The rows of a Parquet file, one after another, as dicts. No row comes before all of the file was accepted.
 
-    `limit` is the greatest number of rows. With `raw` the values are as the program prints them.
+    `limit` is the greatest number of rows; then the row groups after those that have these rows are not checked. With
+    `raw` the values are as the program prints them.
 
     Raises `Refused`: `Codec` for a compressed file, `Float` and `Int96` for such columns, and others for a damaged one.
     """

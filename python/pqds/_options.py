@@ -8,7 +8,8 @@ from typing import Any, List, Mapping, Optional, TypedDict
 class FileOptions(TypedDict, total=False):
     """How files are written. What is not given, or None, is as the program has it.
 
-    `style` is plain, dictionary, delta, lengths or split, and for `remove` and `rewrite` also keep: as the group was.
+    `style` is plain, dictionary, delta, lengths or split, and for `remove` and `rewrite` also keep: that of the first
+    group that is written anew.
     `group_rows` is the greatest number of rows of a group, `page_rows` of a page; `page_version` is 1 or 2.
     """
 
