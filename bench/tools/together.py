@@ -83,7 +83,9 @@ def functions_of(file: str, text: str) -> list[Function]:
         elif first and line == f"{head[1]}}}":
             of_type = re.match(r"\w+", owner) if head[1] else None
             is_named = not head[1] or (of_type and " for " not in owner)
-            path = [*outer, *([of_type[0]] if of_type else []), head[2]] if is_named else outer
+            # A method is told under the module of its type, which may be another one.
+            named = [of_type[0], head[2]] if of_type else [*outer, head[2]]
+            path = named if is_named else outer
             found.append(Function(file, first, number, head[2], "::".join(path)))
             head = None
     return found
