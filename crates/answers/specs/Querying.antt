@@ -12,6 +12,7 @@ use Rattle.footer.specs.File.{IsFile}
 use Rattle.rowtext.specs.Json.{row_text_as}
 pub use Rattle.columns.specs.Columns.{fields_at}
 use Rattle.disk.specs.State.{State as DiskState}
+use Rattle.manifest.specs.Groups.{root_of}
 use Rattle.table.specs.Table.{Table, rows}
 use Rattle.table.specs.Deciding.{Filter, satisfies}
 use Rattle.table.specs.Cursors.{Columns, wanted_places, cut}
@@ -23,6 +24,7 @@ use Rattle.table.specs.declared.answer.GroupInfo.{GroupInfo}
 use Rattle.table_state.specs.declared.standing.Core.{Core}
 use Rattle.table_state.specs.Stands.{Stands}
 use Rattle.table_state.specs.Promises.{ActsFrom}
+use Rattle.table_reads.specs.Listing.{told_of, told_by}
 use Rattle.answers.specs.Lines.{AreGroupLines}
 use Rattle.answers.specs.Making.{IsAskedFilter, IsRefusedFilterOf}
 
@@ -92,7 +94,9 @@ abbrev pub Reads : {D T : Type 0} → (D → DiskState) → Bool → Core D → 
 Reads state texts old new asked Prints Unchanged result = (state old.vault.disk).honest → (s : State) → Stands state old s
     → ReadsFrom state texts old new asked (λ terms. Prints terms s.table) Unchanged result s
 
--- on an honest disk, from each state that the store stands in: where the result is Ok a writer got the lines of the table's groups
+-- On an honest disk, from each state that the store stands in: where the result is Ok a writer got the lines of the table's groups, each
+-- with the bytes of its chunks as the store's root has them.
 abbrev pub ListsGroups : {D T : Type 0} → (D → DiskState) → Core D → Option (List ℕ) → Option (List ℕ) → Result T Refusal → Type 0
 ListsGroups state store before after result = (state store.vault.disk).honest → (s : State) → Stands state store s
-    → OnOk result ((infos : List GroupInfo) × (printed : List ℕ) × (map info_view infos ≡ map summary s.table.groups) × AreGroupLines infos printed × Appends before after printed)
+    → OnOk result ((infos : List GroupInfo) × (printed : List ℕ) × (map info_view infos ≡ map summary s.table.groups)
+    × (map told_by infos ≡ map told_of (root_of store.manifest).groups) × AreGroupLines infos printed × Appends before after printed)

@@ -13,5 +13,5 @@ returns-clause-prints g c = λ honest s stands.
     let infos = c.in_ok-groups.groups.items in
     let told = told_groups g.D.Disk.state c.args.store.now c.groups.new.self s infos (c.in_ok-groups.ensures.acts honest s stands) in
     on_ok_weaker c.print_each_group.result
-    (λ (p : (printed : List ℕ) × AreGroupLines infos printed × Appends before after printed). (infos, p.0, told, p.1, p.2))
+    (λ (p : (printed : List ℕ) × AreGroupLines infos printed × Appends before after printed). (infos, p.0, told, c.in_ok-groups.ensures.told, p.1, p.2))
     (subst (λ (gs : List GroupInfo). OnOk c.print_each_group.result ((printed : List ℕ) × AreGroupLines gs printed × Appends before after printed)) c.as_slice.ensures.value c.print_each_group.ensures.printed)
