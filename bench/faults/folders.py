@@ -212,7 +212,7 @@ for name, keyed, is_found in (("_metadata.new", True, True), ("k=c", True, True)
         more = '{"k":"c","x":3}\n' if keyed else '{"x":1}\n'
         is_done = ended[0] == 0 and after == (0, table + more, "") or refusal(ended) == 25 and after == (0, table, "")
         finding = f"{folder}/{name}: {OTHER_NODE}\nfindings: 1\n"
-        is_told = refusal(checked) == 25 and checked[1] == finding if is_found else checked[0] == 0
+        is_told = checked == (1, finding, "refused 25 Device\n") if is_found else checked[0] == 0
         tell(f"a {kind} called {name}{'' if keyed else ', without keys'}: {'a finding of check' if is_found else 'no finding'}, an append is {'done' if ended[0] == 0 else 'refused'}",
              is_told and looked[0] == 0 and read == (0, table, "") and is_done and os.path.lexists(f"{folder}/{name}") and stays(),
              (checked, looked, read, ended, after))
@@ -233,6 +233,17 @@ for kind, put in ODD.items():
     os.remove("t/k=a")
     os.rename("moved", "t/k=a")
     tell("without it the table is whole", is_whole("t")[0])
+
+# ---- a folder that is named by a link ----
+
+new_table()
+os.symlink("t", "lk")
+called_so = "lk is a link: name it with a slash after it, lk/\nrefused 25 Device\n"
+ended = [called(*words) for words in (("check", "lk"), ("inspect", "lk"), ("count", "lk"), ("append", "lk", "rows.jsonl"), ("create", "lk", "schema.json", "k"))]
+tell("a link to the folder: each command says what to name", all(it == (1, "", called_so) for it in ended), ended)
+ended = called("check", "lk/")
+tell("with a slash after it the folder is found", ended[0] == 0, ended)
+os.remove("lk")
 
 # ---- folders with the names of files ----
 

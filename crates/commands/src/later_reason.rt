@@ -4,7 +4,7 @@ use bits::{R, Refusal};
 use call_reasons::is_of_bytes;
 use dataset_words::{Call, Change, Look, Question, Task};
 use places::{Node, Notes, Places, Reason};
-use reasons::{Cause, options_fault, output_cause, system_fault};
+use reasons::{Cause, SystemFault, options_fault, output_cause, system_fault};
 use reports::first_problem;
 use std::alloc::Global;
 use std::io;
@@ -38,7 +38,7 @@ impl<P: Places> Refused<'_, P> {
     /// output.
     pub fn reason(&self, refusal: &Refusal, flushed: &io::Result<()>) -> R<Option<Reason>> {
         match refusal {
-            Refusal::Device => Ok(Some(self.of_system(flushed)?)),
+            Refusal::Device => self.of_system(flushed),
             Refusal::NoTable => Ok(Some(self.of_no_table()?)),
             Refusal::Limit => Ok(Some(self.of_limit())),
             _ if is_of_bytes(refusal) && self.is_of_stored() => self.of_part(),
@@ -57,24 +57,36 @@ impl<P: Places> Refused<'_, P> {
         }
     }
 
-    /// What the system refused: at a path, or of the folder, or of the output.
-    fn of_system(&self, flushed: &io::Result<()>) -> R<Reason> {
+    /// What the system refused: at a path, or of the folder, or of the output. None where a check found something, whose line says
+    /// why.
+    fn of_system(&self, flushed: &io::Result<()>) -> R<Option<Reason>> {
         if let Some(fault) = self.notes.take_refused()? {
-            if fault.is_about(self.call.folder) && self.is_link() {
-                return Ok(Reason::Link);
+            if self.is_of_folder(&fault) && self.is_link() {
+                return Ok(Some(Reason::Link));
             }
-            return Ok(Reason::Told(Cause::System(fault)));
+            return Ok(Some(Reason::Told(Cause::System(fault))));
         }
         if let Err(error) = flushed {
-            return Ok(Reason::Told(output_cause(self.alloc, *error)?));
+            return Ok(Some(Reason::Told(output_cause(self.alloc, *error)?)));
         }
         if let Some(reason) = self.of_folder()? {
-            return Ok(reason);
+            return Ok(Some(reason));
         }
         match self.notes.take_in_the_way() {
-            Some(path) => self.of_node_at(path.as_str()),
-            None => Ok(Reason::Told(Cause::Output)),
+            Some(path) => Ok(Some(self.of_node_at(path.as_str())?)),
+            None if self.has_findings() => Ok(None),
+            None => Ok(Some(Reason::Told(Cause::Output))),
         }
+    }
+
+    /// Whether the system refused something at the folder or in it.
+    fn is_of_folder(&self, fault: &SystemFault) -> bool {
+        fault.is_about(self.call.folder) || fault.is_within(self.call.folder)
+    }
+
+    /// Whether the call prints what it finds in the files of a dataset, each with a refusal.
+    fn has_findings(&self) -> bool {
+        matches!(self.call.task, Task::Look(Look::Files))
     }
 
     /// What stands in the way at a path in the folder: a folder, or something else.

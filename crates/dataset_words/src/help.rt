@@ -82,7 +82,7 @@ a line that shows the first column that differs, in the file and in the dataset.
 file is read as decode reads it, and refused as it refuses it; what the file says of itself besides its rows is not used.
 
 With several FILEs the rows of all come in, in the order of the files and in one commit, or none. Where one of them is refused,
-the line before the refusal names it. All files are read first: their bytes, and the rows of one of them, are in memory.
+the line before the refusal names it. All files are read first: their bytes, and all of their rows as columns, are in memory.
 
 With --unless nothing is appended if a row of the dataset satisfies a filter, as append says it.
 

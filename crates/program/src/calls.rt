@@ -23,8 +23,8 @@ use crate::refusal_line::put_refusal;
 use bits::{R, Refusal};
 use columns::has_column;
 use dataset_words::Datasets;
-use footer::FileReader;
-use reasons::{Cause, output_cause};
+use footer::{FileReader, WriteOptions};
+use reasons::{Cause, options_fault, output_cause};
 use reports::{ByteSource, OneLine, Terminals, first_problem};
 use std::alloc::Global;
 use std::fmt::Write as _;
@@ -252,6 +252,7 @@ fn copy_file<P: Paths, W: Write, E: Write>(
     check_free(paths, alloc, copying.path, why)?;
     let bytes = paths.bytes_of(alloc, copying.file, why)?;
     let copy = copied(alloc, bytes.as_slice(), copying, err, terminals.err);
+    let copy = with_option(&copying.options, copy, why);
     let copy = with_problem(alloc, copying.file, bytes.as_slice(), copy, why)?;
     put(paths, alloc, copying.path, copy.as_slice(), out, why)
 }
@@ -465,9 +466,26 @@ fn with_problem<T: Drop>(
     given
 }
 
+/// The same result. Where it is Limit for an option that is out of range, `why` gets which one.
+fn with_option<T: Drop>(options: &WriteOptions, given: R<T>, why: &mut Option<Cause>) -> R<T>
+    ensures same { result ≡ given }
+{
+    if let Err(refusal) = &given
+        && *refusal == Refusal::Limit
+        && let Some(fault) = options_fault(
+            options.group_rows,
+            options.page_rows,
+            options.page_version,
+        )
+    {
+        *why = Some(Cause::Limit(fault));
+    }
+    given
+}
+
 /// The same refusal. Where it is Device, for no reason that is known, `why` gets what the output is refused for: it is asked
 /// once more.
-fn with_output<W: Write>(
+pub(crate) fn with_output<W: Write>(
     alloc: Global,
     refusal: Refusal,
     out: &mut W,

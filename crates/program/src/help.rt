@@ -186,7 +186,7 @@ and the names in its folders. Nothing is changed, nor what a stop left behind re
 
 pub const INSPECT_REFUSALS: &str = "\
 The file is refused, with status 1 and one line on standard error, where its footer cannot be read (or, of a dataset, its
-_metadata; 23 where there is none):
+_metadata; 23 where there is none, and 4, 9 or 17 where it describes no table):
 
     1 Truncated    the bytes end before what they announce, or are fewer than 12
     2 Magic        the first or the last four bytes are not PAR1
@@ -267,6 +267,8 @@ A dataset is refused 23 where there is none, and its files as decode refuses the
     4 Schema       a file has other columns than the dataset says
     9 Page         a file has other rows, chunks or statistics than the dataset says
     17 Key         a row of ROWS has a key that no folder can be named by
+    24 Exists      a file or a folder has a name that a commit needs
+    25 Device      something that is neither has a name that a commit needs
 
 Example, at the top of the repository:
 

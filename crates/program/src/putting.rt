@@ -1,11 +1,14 @@
 //! Where the bytes of a new file go: to a file of the host, or to standard output.
 
 ghost use Rattle.std.specs.Prelude.{◌≡◌, IsTrue, IfErr, OnOk};
+ghost use Rattle.std.specs.Io.KnownBytes.{Appends};
+ghost use Rattle.bits.specs.Refusals.{RefusedOnly};
 ghost use Rattle.bits.specs.declared.refusal.Refusal.TheVariants.{Device};
 ghost use Rattle.program.specs.Paths.{IsPlaceRefusal, IsUnwritten, PutsAt};
 ghost use Rattle.program.specs.Words.{PutsToOutput};
 
 use crate::arguments::Call;
+use crate::calls::with_output;
 use crate::host::write_whole;
 use crate::paths::{Paths, folder_of};
 use bits::{R, Refusal};
@@ -104,8 +107,19 @@ pub fn put<P: Paths, W: Write>(
     ensures unwritten { IfErr result (IsUnwritten (W.contents out.old) (W.contents out.new)) }
 {
     if path == OUTPUT {
-        write_whole(bytes, out)
+        put_out(alloc, bytes, out, why)
     } else {
         paths.put_new(alloc, path, bytes, why)
+    }
+}
+
+/// Gives standard output these bytes. Refused Device where it cannot be written; then `why` gets what it is refused for.
+fn put_out<W: Write>(alloc: Global, bytes: &[u8], out: &mut W, why: &mut Option<Cause>) -> R<()>
+    ensures stands { OnOk result (Appends (W.contents out.old) (W.contents out.new) bytes.now) }
+    ensures which { RefusedOnly (λ e. e ≡ Device) result }
+{
+    match write_whole(bytes, out) {
+        Ok(()) => Ok(()),
+        Err(refusal) => Err(with_output(alloc, refusal, out, why)),
     }
 }

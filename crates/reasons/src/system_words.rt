@@ -25,6 +25,14 @@ impl SystemFault {
         self.path.as_str() == path
     }
 
+    /// Whether it is about a path in this folder.
+    pub fn is_within(&self, folder: &str) -> bool {
+        match self.path.as_str().strip_prefix(folder) {
+            Some(rest) => rest.starts_with('/'),
+            None => false,
+        }
+    }
+
     /// The same with what to do.
     pub fn with_advice(self, advice: &'static str) -> SystemFault {
         SystemFault {

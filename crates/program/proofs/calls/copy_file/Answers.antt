@@ -32,7 +32,7 @@ returns-in_err-copy-clause-refused g c =
     let e = c.in_err-copy.field-0.0 in
     let has : HasFront place bytes = subst (HasFront place) (sym c.as_slice.ensures.value) c.in_ok-bytes.ensures.has in
     let why : (e ≡ Memory) ⊎ IsCopyRefusal copying.limit bytes e =
-    of_same (λ e. (e ≡ Memory) ⊎ IsCopyRefusal copying.limit bytes e) c.with_problem.result c.copied-copy.result e c.with_problem.ensures.same c.in_err-copy.was
+    of_same (λ e. (e ≡ Memory) ⊎ IsCopyRefusal copying.limit bytes e) c.with_problem.result c.copied-copy.result e (c.with_problem.ensures.same ∙ c.with_option-copy.ensures.same) c.in_err-copy.was
     c.copied-copy.ensures.which in
     passes (RefusesCopying (g.P.Paths.files c.args.paths.now) copying old old) c.from_residual-in_err-copy.result e c.from_residual-in_err-copy.ensures.1
     (elim why [ inl m ↦ inr (inl (inl m)) | inr w ↦ inr (inr (bytes, has, w)) ], λ _ _. refl)
@@ -52,7 +52,7 @@ returns-clause-done g c =
     let bytes = c.as_slice.result.now in
     let file = c.as_slice-3.result.now in
     let has : HasFront place bytes = subst (HasFront place) (sym c.as_slice.ensures.value) c.in_ok-bytes.ensures.has in
-    let made : c.copied-copy.result ≡ Ok c.in_ok-copy.copy = sym c.with_problem.ensures.same ∙ c.in_ok-copy.was in
+    let made : c.copied-copy.result ≡ Ok c.in_ok-copy.copy = sym (c.with_problem.ensures.same ∙ c.with_option-copy.ensures.same) ∙ c.in_ok-copy.was in
     let asked : IsCopyAsked copying bytes c.in_ok-copy.copy.items = subst (λ (r : Result (Vec ℕ Global) Refusal). IfOk r (λ (copy : Vec ℕ Global). IsCopyAsked copying bytes copy.items)) made c.copied-copy.ensures.stands in
     let copy : IsCopyAsked copying bytes file = subst (IsCopyAsked copying bytes) (sym c.as_slice-3.ensures.value) asked in
     on_ok_weaker c.put.result (λ puts. (bytes, file, has, copy, puts)) c.put.ensures.puts
