@@ -19,10 +19,8 @@
 # Kills and failures need strace. Other groups, devices and small disks need the superuser, and are passed over for others.
 top=$(CDPATH='' cd -- "$(dirname -- "$0")/../.." && pwd) || exit 1
 . "$top/bench/tools/usage.sh"
-no_options "$@"
-[ $# -le 1 ] || usage
+take_program "$@"
 needs python3
-program=$(PQDS=${1:-$PQDS} "$top/bench/tools/program.sh") || exit 1
 program=$(realpath -- "$program") || exit 1
 make_room
 python3 -B "$top/bench/faults/folders.py" "$program" "$room"

@@ -22,10 +22,8 @@
 # - A dataset can be appended to itself through a pipe.
 top=$(CDPATH='' cd -- "$(dirname -- "$0")/../.." && pwd) || exit 1
 . "$top/bench/tools/usage.sh"
-no_options "$@"
-[ $# -le 1 ] || usage
+take_program "$@"
 needs python3
-program=$(PQDS=${1:-$PQDS} "$top/bench/tools/program.sh") || exit 1
 make_room
 python3 -B - "$program" "$room" <<'PYTHON'
 import fcntl, json, os, pty, shutil, stat, subprocess, sys, threading, time

@@ -8,10 +8,8 @@
 # With STEPS=N there are N steps (50), with SEED=N other moments.
 top=$(CDPATH='' cd -- "$(dirname -- "$0")/../.." && pwd) || exit 1
 . "$top/bench/tools/usage.sh"
-no_options "$@"
-[ $# -le 1 ] || usage
+take_program "$@"
 needs python3
-program=$(PQDS=${1:-$PQDS} "$top/bench/tools/program.sh") || exit 1
 make_room
 python3 -B - "$program" "$room" <<'PYTHON'
 import json, os, random, subprocess, sys, time

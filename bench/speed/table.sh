@@ -11,10 +11,8 @@
 # It needs the program `time` for the memory: what the system says of a child counts the memory of Python, which began it.
 top=$(CDPATH='' cd -- "$(dirname -- "$0")/../.." && pwd) || exit 1
 . "$top/bench/tools/usage.sh"
-no_options "$@"
-[ $# -le 1 ] || usage
+take_program "$@"
 needs python3 time
-program=$(PQDS=${1:-$PQDS} "$top/bench/tools/program.sh") || exit 1
 make_room
 python3 - "$program" "$room" <<'PYTHON'
 import json, os, resource, shutil, subprocess, sys, time

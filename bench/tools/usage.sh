@@ -37,3 +37,11 @@ make_room() {
     trap 'rm -rf "$room"' EXIT
     trap 'exit 130' INT TERM HUP
 }
+
+# For a script of at most one word, PROGRAM: sets `program` to that one, or to the one of bench/tools/program.sh.
+# shellcheck disable=SC2034,SC2154
+take_program() {
+    no_options "$@"
+    [ $# -le 1 ] || usage
+    program=$(PQDS=${1:-$PQDS} "$top/bench/tools/program.sh") || exit 1
+}
