@@ -1,5 +1,5 @@
 -- The rows that marks select.
-use Rattle.std.proofs.Common.{ℕ, ◌≡◌, ◌≢◌, ◌+◌, Bool, true, false, not, nat_eq, List, [], ◌∷◌, length, map, refl, ap, sym, ◌∙◌, arith}
+use Rattle.std.proofs.Common.{ℕ, ◌≡◌, ◌≢◌, ◌≤◌, ◌+◌, Bool, true, false, not, nat_eq, List, [], ◌∷◌, length, map, refl, ap, sym, ◌∙◌, arith}
 use Rattle.std.specs.Prelude.{filter, cond, nat_lt, replicate}
 use Rattle.std.specs.List.{list_any}
 use Rattle.std.proofs.lemmas.Bool.{false≢true, eqb-true}
@@ -45,6 +45,10 @@ pub some_chosen : {A : Type 0} (marks : List Bool) (count : ℕ) → HaveSelecte
 some_chosen [] count have [] size none = let away : nat_lt 0 count ≡ false = grind (arith, nat_tests) in false≢true (sym away ∙ have.some)
 some_chosen [] count have (x ∷ xs) size none = absurd (cc)
 some_chosen (m ∷ marks) count have xs size none = one_marked (m ∷ marks) xs (let n = have.many (λ e. cc) in omega (arith, n, size)) have.some none
+
+-- where there are no marks and some row, some is selected
+pub unmarked_chosen : (marks : List Bool) (count : ℕ) → marks ≡ [] → 1 ≤ count → has_selected marks count ≡ true
+unmarked_chosen marks count none some = let here : nat_lt 0 count ≡ true = grind (arith, nat_tests) in ap (λ (ms : List Bool). has_selected ms count) none ∙ here
 
 -- ---- how many are selected
 

@@ -35,4 +35,5 @@ pub mod RunTaken
 pub mod HeldBack
 pub mod SideBySide
 pub mod HeldOnce
+pub mod SomeChunk
 pub mod FlatRuns

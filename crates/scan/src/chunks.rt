@@ -5,7 +5,7 @@ ghost use Rattle.bits.specs.Refusals.{RefusedOnly, RefusedMemoryOnly};
 ghost use Rattle.schema.specs.Keys.{key_columns_view};
 ghost use Rattle.metadata.specs.Views.{column_meta_view, chunk_meta_view};
 ghost use Rattle.row_group.specs.Chunks.{StartsAt};
-ghost use Rattle.vault.specs.Views.{IsKept};
+ghost use Rattle.vault.specs.Views.{IsKept, IsNoFile};
 ghost use Rattle.partition.specs.Folders.{part_path_of, CanPartition};
 ghost use Rattle.manifest.specs.Groups.{group_view};
 ghost use Rattle.scan.specs.Faults.{IsOfParts, IsDevice};
@@ -36,6 +36,7 @@ pub fn read_chunks<D: Disk>(
         → IfOk result (λ texts. AreTexts for_filter (map chunk_meta_view chunks.now) bytes uses.now (texts_view texts.items)) }
     ensures only { (D.state vault.old.disk).honest → (bytes : List ℕ) → IsKept (D.state vault.old.disk) path.now bytes
         → HaveRanges for_filter (map chunk_meta_view chunks.now) uses.now → RefusedOnly IsDevice result }
+    ensures absent { (D.state vault.old.disk).honest → IsNoFile (D.state vault.old.disk) path.now → IfOk result (λ _. count_due for_filter uses.now ≡ 0) }
     ensures as_many { IfOk result (λ texts. length texts.items ≡ length uses.now) }
     ensures effect { ReadsPart (count_due for_filter uses.now) (D.state vault.old.disk) (D.state vault.new.disk) result }
 {
@@ -59,6 +60,7 @@ fn read_due<D: Disk>(
         → IfOk result (λ text. is_due for_filter usage ≡ true → IsText (map chunk_meta_view chunks.now) bytes usage.chunk text.items) }
     ensures only { (D.state vault.old.disk).honest → (bytes : List ℕ) → IsKept (D.state vault.old.disk) path.now bytes
         → (is_due for_filter usage ≡ true → HasRange (map chunk_meta_view chunks.now) usage.chunk) → RefusedOnly IsDevice result }
+    ensures absent { (D.state vault.old.disk).honest → IsNoFile (D.state vault.old.disk) path.now → is_due for_filter usage ≡ true → IfOk result (λ _. ⊥) }
     ensures effect { ReadsPart (if is_due for_filter usage then 1 else 0) (D.state vault.old.disk) (D.state vault.new.disk) result }
 {
     if !usage.is_due(for_filter) {
@@ -79,6 +81,7 @@ fn read_chunk<D: Disk>(
         → IfOk result (λ text. IsText (map chunk_meta_view chunks.now) bytes number text.items) }
     ensures only { (D.state vault.old.disk).honest → (bytes : List ℕ) → IsKept (D.state vault.old.disk) path.now bytes
         → HasRange (map chunk_meta_view chunks.now) number → RefusedOnly IsDevice result }
+    ensures absent { (D.state vault.old.disk).honest → IsNoFile (D.state vault.old.disk) path.now → IfOk result (λ _. ⊥) }
     ensures effect { ReadsPart 1 (D.state vault.old.disk) (D.state vault.new.disk) result }
 {
     let range = range_of(chunks, number)?;

@@ -11,6 +11,7 @@ ghost use Rattle.schema.specs.Views.{rows_view};
 ghost use Rattle.vault.specs.Calls.{LeavesAll, CountsOnce};
 ghost use Rattle.manifest.specs.Groups.{group_view};
 ghost use Rattle.filter.specs.Test.{tests_in};
+ghost use Rattle.scan.specs.Absent.{Lacks, MayLack};
 ghost use Rattle.scan.specs.Cost.{chunks_read};
 ghost use Rattle.scan.specs.Faults.{IsPartRefusal, IsOfParts, IsDevice};
 ghost use Rattle.scan.specs.Left.{AreReadFor, AreOthersFor, AreAccepted, rows_held, others_held, rows_stand, selected_by, turned};
@@ -80,6 +81,9 @@ impl GroupRows {
         ensures accepted { IfOk result AreAccepted }
         ensures only { (D.state vault.old.disk).honest → AreKeys (key_columns_view keys.now) schema.now → (rows : List ValueTrees)
             → Holds (D.state vault.old.disk) (key_columns_view keys.now) schema.now (group_view group.now) rows → RefusedOnly IsDevice result }
+        ensures absent { (D.state vault.old.disk).honest → IsOver (tests_in filter.now) schema.now → AreKeys (key_columns_view keys.now) schema.now
+            → Lacks (D.state vault.old.disk) (key_columns_view keys.now) schema.now (group_view group.now)
+            → IfOk result (MayLack (tests_in filter.now) (key_columns_view keys.now) schema.now (group_view group.now) places.now) }
         ensures which { RefusedOnly (IsPartRefusal (D.state vault.old.disk) (D.state vault.new.disk)) result }
         ensures unchanged { (D.state vault.old.disk).honest → LeavesAll (D.state vault.old.disk) (D.state vault.new.disk) }
         ensures unread { IsRuledOut (tests_in filter.now) (key_columns_view keys.now) (group_view group.now)
@@ -176,6 +180,9 @@ fn accepted_rows<D: Disk>(
     ensures accepted { IfOk result AreAccepted }
     ensures only { (D.state vault.old.disk).honest → AreKeys (key_columns_view keys.now) schema.now → (rows : List ValueTrees)
         → Holds (D.state vault.old.disk) (key_columns_view keys.now) schema.now (group_view group.now) rows → RefusedOnly IsDevice result }
+    ensures absent { (D.state vault.old.disk).honest → IsOver (tests_in filter.now) schema.now → AreKeys (key_columns_view keys.now) schema.now
+        → Lacks (D.state vault.old.disk) (key_columns_view keys.now) schema.now (group_view group.now)
+        → IfOk result (MayLack (tests_in filter.now) (key_columns_view keys.now) schema.now (group_view group.now) places.now) }
     ensures effect { ReadsPart (chunks_read (tests_in filter.now) (key_columns_view keys.now) schema.now (group_view group.now) places.now)
         (D.state vault.old.disk) (D.state vault.new.disk) result }
 {
@@ -215,6 +222,9 @@ fn read_marked<D: Disk>(
         → IfOk result (MayRead (tests_in filter.now) (key_columns_view keys.now) schema.now (group_view group.now) places.now rows) }
     ensures only { (D.state vault.old.disk).honest → AreKeys (key_columns_view keys.now) schema.now → (rows : List ValueTrees)
         → Holds (D.state vault.old.disk) (key_columns_view keys.now) schema.now (group_view group.now) rows → RefusedOnly IsDevice result }
+    ensures absent { (D.state vault.old.disk).honest → IsOver (tests_in filter.now) schema.now → AreKeys (key_columns_view keys.now) schema.now
+        → Lacks (D.state vault.old.disk) (key_columns_view keys.now) schema.now (group_view group.now)
+        → IfOk result (MayLack (tests_in filter.now) (key_columns_view keys.now) schema.now (group_view group.now) places.now) }
     ensures effect { ReadsPart (chunks_read (tests_in filter.now) (key_columns_view keys.now) schema.now (group_view group.now) places.now)
         (D.state vault.old.disk) (D.state vault.new.disk) result }
 {
@@ -264,6 +274,7 @@ fn marks_for(
         → HaveCells (places_of (key_columns_view keys.now)) (group_view group.now).key group.now.width (leaves_of schema.now) rows
         → IfOk result (λ marks. AreMarksFor (tests_in filter.now) rows marks.items) }
     ensures many { IfOk result (λ marks. marks.items ≢ [] → length marks.items ≡ (group_view group.now).known.rows) }
+    ensures unmarked { tests_in filter.now ≡ [] → IfOk result (λ marks. marks.items ≡ []) }
     ensures only { (rows : List ValueTrees) → RowsFit schema.now rows → length rows ≡ (group_view group.now).known.rows
         → AreHeld true (group_view group.now).chunks (leaves_of schema.now) uses.now (texts_view texts.now) (texts_view texts.now) (columns schema.now rows)
         → RefusedMemoryOnly result }

@@ -8,6 +8,7 @@ ghost use Rattle.schema.specs.Views.{rows_view};
 ghost use Rattle.vault.specs.Calls.{LeavesAll, CountsOnce};
 ghost use Rattle.manifest.specs.Groups.{group_view};
 ghost use Rattle.filter.specs.Test.{tests_in};
+ghost use Rattle.scan.specs.Absent.{Lacks, MayLackRows};
 ghost use Rattle.scan.specs.Cost.{chunks_read};
 ghost use Rattle.scan.specs.Faults.{IsPartRefusal, IsDevice};
 ghost use Rattle.scan.specs.Selected.{IsOver, Holds, AreSelected, IsRuledOut};
@@ -46,6 +47,9 @@ pub fn rows_of<D: Disk>(
         → IfOk result (λ out. AreSelected (tests_in filter.now) places.now rows (rows_view out.items)) }
     ensures only { (D.state vault.old.disk).honest → AreKeys (key_columns_view keys.now) schema.now → (rows : List ValueTrees)
         → Holds (D.state vault.old.disk) (key_columns_view keys.now) schema.now (group_view group.now) rows → RefusedOnly IsDevice result }
+    ensures absent { (D.state vault.old.disk).honest → IsOver (tests_in filter.now) schema.now → AreKeys (key_columns_view keys.now) schema.now
+        → Lacks (D.state vault.old.disk) (key_columns_view keys.now) schema.now (group_view group.now)
+        → IfOk result (λ out. MayLackRows (tests_in filter.now) (key_columns_view keys.now) schema.now (group_view group.now) places.now (rows_view out.items)) }
     ensures which { RefusedOnly (IsPartRefusal (D.state vault.old.disk) (D.state vault.new.disk)) result }
     ensures unchanged { (D.state vault.old.disk).honest → LeavesAll (D.state vault.old.disk) (D.state vault.new.disk) }
     ensures unread { IsRuledOut (tests_in filter.now) (key_columns_view keys.now) (group_view group.now)

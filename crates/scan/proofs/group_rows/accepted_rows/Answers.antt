@@ -5,6 +5,7 @@ use Rattle.schema.specs.Keys.{key_columns_view}
 use Rattle.filter.specs.Test.{tests_in}
 use Rattle.manifest.specs.Groups.{group_view}
 use Rattle.scan.specs.declared.group_rows.Marked.{Marked}
+use Rattle.scan.specs.Absent.{MayLack}
 use Rattle.scan.specs.Cost.{chunks_read}
 use Rattle.scan.specs.Faults.{IsOfParts, IsDevice}
 use Rattle.scan.specs.Left.{selected_by, turned, others_held}
@@ -29,6 +30,10 @@ returns-in_err-read_marked-clause-effect g c =
 
 pub returns-in-None-clause-stands : goal.returns-in-None-clause-stands
 returns-in-None-clause-stands g c honest over are rows h = subst (AreMarked (tests_in c.args.filter.now) c.args.places.now rows) c.in-None.is (c.in_ok-read_marked.ensures.stands honest over are rows h)
+
+pub returns-in-None-clause-absent : goal.returns-in-None-clause-absent
+returns-in-None-clause-absent g c honest over are lacks =
+    subst (MayLack (tests_in c.args.filter.now) (key_columns_view c.args.keys.now) c.args.schema.now (group_view c.args.group.now) c.args.places.now) c.in-None.is (c.in_ok-read_marked.ensures.absent honest over are lacks)
 
 pub returns-in-None-clause-effect : goal.returns-in-None-clause-effect
 returns-in-None-clause-effect g c =
@@ -81,6 +86,10 @@ returns-in_ok-rows_in-in-Some-clause-others g c honest over are rows h p decides
     let chosen = subst (AreMarked tests places rows) c.in-Some.is (c.in_ok-read_marked.ensures.stands honest over are rows h) in
     subst (others_held c.in_ok-rows_in-in-Some.field-0) (ap (map (cut_to places)) (ap (λ (n : ℕ). selected_by (turned n marks) rows) (sym may.count) ∙ (chosen p decides).1))
     (c.in_ok-rows_in-in-Some.ensures.others rows may)
+
+pub returns-in_ok-rows_in-in-Some-clause-absent : goal.returns-in_ok-rows_in-in-Some-clause-absent
+returns-in_ok-rows_in-in-Some-clause-absent g c honest over are lacks =
+    subst (MayLack (tests_in c.args.filter.now) (key_columns_view c.args.keys.now) c.args.schema.now (group_view c.args.group.now) c.args.places.now) c.in-Some.is (c.in_ok-read_marked.ensures.absent honest over are lacks)
 
 pub returns-in_ok-rows_in-in-Some-clause-effect : goal.returns-in_ok-rows_in-in-Some-clause-effect
 returns-in_ok-rows_in-in-Some-clause-effect g c =

@@ -1,4 +1,5 @@
-use Rattle.std.proofs.Common.{◌∙◌, ap, inl, Bool, List, length}
+use Rattle.std.proofs.Common.{◌∙◌, ap, sym, inl, Bool, List, length}
+use Rattle.std.proofs.lemmas.Bool.{false≢true}
 use Rattle.scan.specs.Left.{selected_by, turned}
 use Rattle.scan.proofs.Chosen.{selected_filter, all_pass, others_filter, no_others}
 use Rattle.scan.proofs.Passages.{ok_weaker}
@@ -13,6 +14,12 @@ returns-then-is_empty-clause-stands c over rows size held have p decides =
 
 pub returns-then-is_empty-clause-many : goal.returns-then-is_empty-clause-many
 returns-then-is_empty-clause-many c some = absurd (some c.new.ensures.items)
+
+pub returns-then-is_empty-clause-unmarked : goal.returns-then-is_empty-clause-unmarked
+returns-then-is_empty-clause-unmarked c empty = c.new.ensures.items
+
+pub returns-clause-unmarked : goal.returns-clause-unmarked
+returns-clause-unmarked c empty = absurd (false≢true (sym c.if-is_empty.false ∙ c.is_empty.ensures.1 empty))
 
 pub returns-clause-stands : goal.returns-clause-stands
 returns-clause-stands c over rows size held have =
