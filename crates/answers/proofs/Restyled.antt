@@ -58,6 +58,7 @@ module _ {D : Type 0} (state : D → DiskState) where
                 numbered_cursors = is.numbered_cursors;
                 parted = is.parted;
                 files = is.files;
+                tracked = is.tracked;
               };
         };
       }

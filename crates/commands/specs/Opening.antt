@@ -13,7 +13,7 @@ use Rattle.recovery.specs.Opening.{Cleans}
 use Rattle.table.specs.State.{State}
 use Rattle.table_state.specs.declared.standing.Core.{Core}
 use Rattle.table_state.specs.Stands.{Shows}
-use Rattle.table_commits.specs.Cleaning.{Clears}
+use Rattle.table_commits.specs.Cleaning.{Clears, IsTidy}
 use Rattle.table_openings.specs.Opening.{disk_of, HasRoomForAll, LeavesTables, IsOpened, IsNotOpened, LeavesAllOrCleans}
 
 module _ {D : Type 0} (state : D → DiskState) where
@@ -49,11 +49,12 @@ module _ {D : Type 0} (state : D → DiskState) where
   abbrev pub OpensToChange : D → WriteOptions → Result (Core D) (D × Refusal) → Type 0
   OpensToChange disk o result = OpensToRead disk o result ⊎ OpensAndCleans disk o result
 
-  -- what the cleaning of a store promises: it shows the state that it showed, a stop at any moment leaves that state's table, and other
-  -- files are left alone
+  -- what the cleaning of a store promises: it shows the state that it showed, a stop at any moment leaves that state's table, no part
+  -- file stands that nothing needs, unless a cleaning met a fault, and other files are left alone
   pub record CleansUp (old new : Core D) : Type 0 where
     pub clears : (state old.vault.disk).honest → (s : State) → Shows state old s → s.closed ≡ false → Clears state old new s
-    pub same : new ≡ record old { vault = new.vault; snapshots = new.snapshots }
+    pub tidy : (state old.vault.disk).honest → (s : State) → Shows state old s → s.closed ≡ false → IsTidy state new
+    pub same : new ≡ record old { vault = new.vault; snapshots = new.snapshots; clean = new.clean }
     pub removes : (state old.vault.disk).honest → old.closed ≡ false → old.jobs.items ≡ [] → old.cursors.items ≡ []
         → Cleans (root_of old.manifest) (state old.vault.disk) (state new.vault.disk)
     pub counts : (state old.vault.disk).failures ≤ (state new.vault.disk).failures

@@ -1,6 +1,6 @@
 //! Changes that are one call each.
 
-ghost use Rattle.std.specs.Prelude.{◌≤◌, ◌↔◌, ◌≡◌, List, false, Err, ◌<◌, [], IfOk, OnErr};
+ghost use Rattle.std.specs.Prelude.{◌≤◌, ◌↔◌, ◌≡◌, ◌≢◌, List, false, Err, ◌<◌, [], IfOk, OnErr};
 ghost use Rattle.schema.specs.Views.{rows_view};
 ghost use Rattle.table.specs.Calls.{append, done, import, remove, remove_groups, add_column};
 ghost use Rattle.table.specs.Views.{answered};
@@ -8,9 +8,13 @@ ghost use Rattle.table_state.specs.Promises.{Acts, HasCause, StaysClosed, Closes
 ghost use Rattle.gather.specs.GatheredRows.{holds};
 ghost use Rattle.manifest.specs.Groups.{root_of};
 ghost use Rattle.table.specs.Table.{Row as TableRow};
+ghost use Rattle.table_commits.specs.Cleaning.{LeavesTidy, LeavesTidyOverRows};
 ghost use Rattle.table_commits.specs.Gathering.{AreGatheredFor};
 ghost use Rattle.table_commits.specs.Keeping.{Unwritten};
 ghost use Rattle.filter.specs.Terms.{terms_view};
+ghost use Rattle.filter.specs.Test.{Test};
+ghost use Rattle.table_changes.specs.Removing.{HoldNoneIfAbsent};
+ghost use Rattle.table_reads.specs.Counting.{AreAsked};
 ghost use Rattle.schema.specs.Elements.{elements_view};
 
 use crate::store::Store;
@@ -29,6 +33,8 @@ impl<D: Disk> Store<D> {
     pub fn append(&mut self, alloc: Global, rows: &[Row]) -> R<u64>
         ensures acts { Acts D.state self.old self.new (append (rows_view rows.now)) (answered done result) }
         ensures cause { HasCause D.state self.old self.new (answered done result) }
+        // If a row was appended, no part file is left that nothing needs, unless a cleaning met a fault, or the store keeps what is replaced.
+        ensures tidy { LeavesTidyOverRows D.state self.old self.new result }
         ensures closed { StaysClosed self.old self.new result }
         ensures doubt { ClosesInDoubt self.new result }
         ensures unwritten { IfOk result (λ n. n ≡ 0 → self.new ≡ self.old) }
@@ -52,6 +58,9 @@ impl<D: Disk> Store<D> {
             → Acts D.state self.old self.new (append rows) (answered done result) }
         ensures cause { (rows : List TableRow) → holds gathered.entry rows → AreGatheredFor (root_of self.old.manifest) self.old.options gathered.entry
             → HasCause D.state self.old self.new (answered done result) }
+        // If a row was appended, no part file is left that nothing needs, unless a cleaning met a fault, or the store keeps what is replaced.
+        ensures tidy { (rows : List TableRow) → holds gathered.entry rows → AreGatheredFor (root_of self.old.manifest) self.old.options gathered.entry
+            → LeavesTidyOverRows D.state self.old self.new result }
         ensures other { (AreGatheredFor (root_of self.old.manifest) self.old.options gathered.entry → ⊥) → self.old.closed ≡ false
             → (result ≡ Err Refusal.Schema) × (self.new ≡ self.old) }
         ensures closed { StaysClosed self.old self.new result }
@@ -74,6 +83,8 @@ impl<D: Disk> Store<D> {
     pub fn import(&mut self, alloc: Global, bytes: &[u8]) -> R<u64>
         ensures acts { Acts D.state self.old self.new (import bytes.now) (answered done result) }
         ensures cause { HasCause D.state self.old self.new (answered done result) }
+        // If a row was appended, no part file is left that nothing needs, unless a cleaning met a fault, or the store keeps what is replaced.
+        ensures tidy { LeavesTidyOverRows D.state self.old self.new result }
         ensures closed { StaysClosed self.old self.new result }
         ensures doubt { ClosesInDoubt self.new result }
         ensures unwritten { IfOk result (λ n. n ≡ 0 → self.new ≡ self.old) }
@@ -99,8 +110,12 @@ impl<D: Disk> Store<D> {
     pub fn remove(&mut self, alloc: Global, terms: &[Vec<Term>]) -> R<u64>
         ensures acts { Acts D.state self.old self.new (remove (terms_view terms.now)) (answered done result) }
         ensures cause { HasCause D.state self.old self.new (answered done result) }
+        // If a row was removed, no part file is left that nothing needs, unless a cleaning met a fault, or the store keeps what is replaced.
+        ensures tidy { LeavesTidyOverRows D.state self.old self.new result }
         ensures closed { StaysClosed self.old self.new result }
         ensures doubt { ClosesInDoubt self.new result }
+        ensures absent { (D.state self.old.vault.disk).honest → (tests : List (List Test)) → AreAsked (root_of self.old.manifest) (terms_view terms.now) tests
+            → IfOk result (λ n. n ≡ 0 → HoldNoneIfAbsent (D.state self.old.vault.disk) tests (root_of self.old.manifest)) }
         ensures unwritten { IfOk result (λ n. n ≡ 0 → Unwritten D.state self.old self.new) }
         ensures kept { OnErr result (LeavesTable self.old self.new) }
         ensures touches { TouchesTable self.old self.new }
@@ -117,6 +132,8 @@ impl<D: Disk> Store<D> {
     pub fn remove_groups(&mut self, alloc: Global, numbers: &[u64]) -> R<u64>
         ensures acts { Acts D.state self.old self.new (remove_groups numbers.now) (answered done result) }
         ensures cause { HasCause D.state self.old self.new (answered done result) }
+        // Unless there are no numbers, no part file is left that nothing needs, unless a cleaning met a fault, or the store keeps what is replaced.
+        ensures tidy { numbers.now ≢ [] → LeavesTidy D.state self.old self.new result }
         ensures closed { StaysClosed self.old self.new result }
         ensures doubt { ClosesInDoubt self.new result }
         ensures unwritten { numbers.now ≡ [] → self.new ≡ self.old }
@@ -137,6 +154,8 @@ impl<D: Disk> Store<D> {
     pub fn add_column(&mut self, alloc: Global, elements: &[Element]) -> R<u64>
         ensures acts { Acts D.state self.old self.new (add_column (elements_view elements.now)) (answered done result) }
         ensures cause { HasCause D.state self.old self.new (answered done result) }
+        // No part file is left that nothing needs, unless a cleaning met a fault, or the store keeps what is replaced.
+        ensures tidy { LeavesTidy D.state self.old self.new result }
         ensures closed { StaysClosed self.old self.new result }
         ensures doubt { ClosesInDoubt self.new result }
         ensures kept { OnErr result (LeavesTable self.old self.new) }

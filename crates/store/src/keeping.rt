@@ -8,7 +8,7 @@ ghost use Rattle.table.specs.Calls.{reopen, accepted};
 ghost use Rattle.table.specs.Views.{answered};
 ghost use Rattle.table_openings.specs.Opening.{LeavesAllOrCleans};
 ghost use Rattle.table_state.specs.Promises.{Acts, HasCause};
-ghost use Rattle.table_commits.specs.Cleaning.{Clears};
+ghost use Rattle.table_commits.specs.Cleaning.{Clears, IsTidy};
 ghost use Rattle.table.specs.State.{State};
 ghost use Rattle.table_state.specs.Stands.{Stands, Shows};
 
@@ -34,6 +34,8 @@ impl<D: Disk> Store<D> {
         // Files other than part files that the root does not name, and the next root, are left alone.
         ensures removes { (D.state self.old.vault.disk).honest → OnOk result (Cleans (root_of self.new.manifest) (D.state self.old.vault.disk) (D.state self.new.vault.disk)) }
         ensures clean { (D.state self.old.vault.disk).honest → OnOk result (self.new.clean ≡ true → IsClean (root_of self.new.manifest) (D.state self.new.vault.disk)) }
+        // No part file is left that nothing needs, unless the cleaning met a fault or was left out.
+        ensures tidy { (D.state self.old.vault.disk).honest → (s : State) → Stands D.state self.old s → OnOk result (IsTidy D.state self.new) }
         ensures keeps { self.new.keeps ≡ self.old.keeps }
         // A store that keeps what is replaced changes no file.
         ensures kept { self.old.keeps ≡ true → (D.state self.old.vault.disk).honest → LeavesAll (D.state self.old.vault.disk) (D.state self.new.vault.disk) }
@@ -62,13 +64,16 @@ impl<D: Disk> Store<D> {
     pub fn clean_up(&mut self, alloc: Global) -> bool
         // The store shows the state that it showed, and a stop at any moment leaves that state's table.
         ensures clears { (D.state self.old.vault.disk).honest → (s : State) → Shows D.state self.old s → s.closed ≡ false → Clears D.state self.old self.new s }
-        ensures same { self.new ≡ record self.old { vault = self.new.vault; snapshots = self.new.snapshots } }
+        // No part file is left that nothing needs, unless a cleaning met a fault. That holds too of a store that keeps what is replaced.
+        ensures tidy { (D.state self.old.vault.disk).honest → (s : State) → Shows D.state self.old s → s.closed ≡ false → IsTidy D.state self.new }
+        ensures same { self.new ≡ record self.old { vault = self.new.vault; snapshots = self.new.snapshots; clean = self.new.clean } }
         ensures closed { self.old.closed ≡ true → (result ≡ false) × (self.new ≡ self.old) }
         // Other files are left alone.
         ensures removes { (D.state self.old.vault.disk).honest → self.old.closed ≡ false → self.old.jobs.items ≡ [] → self.old.cursors.items ≡ []
             → Cleans (root_of self.old.manifest) (D.state self.old.vault.disk) (D.state self.new.vault.disk) }
         // No next root, and no part file in a key folder that the root does not name; and no other version is in use.
         ensures clean { (D.state self.old.vault.disk).honest → IsTrue result → IsClean (root_of self.old.manifest) (D.state self.new.vault.disk) }
+        ensures remembers { IsTrue result → self.new.clean ≡ true }
         ensures idle { IsTrue result → (self.old.jobs.items ≡ []) × (self.old.cursors.items ≡ []) }
         ensures counts { (D.state self.old.vault.disk).failures ≤ (D.state self.new.vault.disk).failures }
         ensures told { IsTrue result → (D.state self.new.vault.disk).failures ≡ (D.state self.old.vault.disk).failures }

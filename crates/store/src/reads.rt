@@ -1,11 +1,14 @@
 //! Reading.
 
-ghost use Rattle.std.specs.Prelude.{◌≡◌, ◌≤◌, ◌↔◌, true, [], IfOk, map, OnOk, OnErr};
+ghost use Rattle.std.specs.Prelude.{◌≡◌, ◌≤◌, ◌↔◌, true, List, [], IfOk, map, OnOk, OnErr};
 ghost use Rattle.filter.specs.Terms.{terms_view};
+ghost use Rattle.filter.specs.Test.{Test};
 ghost use Rattle.table.specs.Calls.{Answer, query, fetch, close, cursor, accepted, ended, count, counted, groups, plan_rewrite, planned, listed};
 ghost use Rattle.table.specs.Views.{names_view, fetched_view, answered, info_view};
+ghost use Rattle.table_commits.specs.Cleaning.{LeavesTidy};
 ghost use Rattle.table_commits.specs.Keeping.{LeavesFiles};
-ghost use Rattle.table_reads.specs.Passing.{FetchReads};
+ghost use Rattle.table_reads.specs.Counting.{AreAsked, AreSpared};
+ghost use Rattle.table_reads.specs.Passing.{FetchReads, FetchesAbsent, rows_fetched};
 ghost use Rattle.table_reads.specs.Shown.{IsShownAs};
 ghost use Rattle.table_state.specs.Promises.{Acts, HasCause, StaysClosed, TouchesCursors};
 ghost use Rattle.manifest.specs.Groups.{root_of};
@@ -53,6 +56,7 @@ impl<D: Disk> Store<D> {
         ensures acts { Acts D.state self.old self.new (fetch cursor) (answered fetched_view result) }
         ensures cause { HasCause D.state self.old self.new (answered fetched_view result) }
         ensures reads { FetchReads D.state self.old self.new cursor result }
+        ensures absent { FetchesAbsent D.state rows_fetched self.old self.new cursor result }
         ensures leaves { LeavesFiles D.state self.old self.new }
         ensures closed { StaysClosed self.old self.new result }
         ensures touches { TouchesCursors self.old self.new }
@@ -71,6 +75,7 @@ impl<D: Disk> Store<D> {
         ensures acts { (answer : Answer) → IsShownAs result answer → Acts D.state self.old self.new (fetch cursor) answer }
         ensures cause { HasCause D.state self.old self.new (answered (λ _. ended) result) }
         ensures reads { FetchReads D.state self.old self.new cursor result }
+        ensures absent { FetchesAbsent D.state (λ rows. rows) self.old self.new cursor result }
         ensures leaves { LeavesFiles D.state self.old self.new }
         ensures closed { StaysClosed self.old self.new result }
         ensures touches { TouchesCursors self.old self.new }
@@ -88,10 +93,12 @@ impl<D: Disk> Store<D> {
     pub fn close(&mut self, alloc: Global, cursor: CursorId) -> R<()>
         ensures acts { Acts D.state self.old self.new (close cursor) (answered (λ _. accepted) result) }
         ensures cause { HasCause D.state self.old self.new (answered (λ _. accepted) result) }
+        // No part file is left that nothing needs, unless a cleaning met a fault, or the store keeps what is replaced.
+        ensures tidy { LeavesTidy D.state self.old self.new result }
         // A store that keeps what is replaced removes nothing here.
         ensures leaves { self.old.keeps ≡ true → LeavesFiles D.state self.old self.new }
         ensures closed { StaysClosed self.old self.new result }
-        ensures touches { TouchesCursors self.old self.new }
+        ensures touches { TouchesCursors (record self.old { clean = self.new.clean }) self.new }
         ensures counts { (D.state self.old.vault.disk).failures ≤ (D.state self.new.vault.disk).failures }
         ensures honest { (D.state self.old.vault.disk).honest ↔ (D.state self.new.vault.disk).honest }
     {
@@ -105,6 +112,8 @@ impl<D: Disk> Store<D> {
     pub fn count(&mut self, alloc: Global, terms: &[Vec<Term>]) -> R<u64>
         ensures acts { Acts D.state self.old self.new (count (terms_view terms.now)) (answered counted result) }
         ensures cause { HasCause D.state self.old self.new (answered counted result) }
+        ensures absent { (D.state self.old.vault.disk).honest → (tests : List (List Test)) → AreAsked (root_of self.old.manifest) (terms_view terms.now) tests
+            → IfOk result (λ _. AreSpared (D.state self.old.vault.disk) tests (root_of self.old.manifest) [] (root_of self.old.manifest).groups) }
         ensures leaves { LeavesFiles D.state self.old self.new }
         ensures touches { self.new ≡ record self.old { vault = self.new.vault } }
         ensures unfailed { OnOk result ((D.state self.new.vault.disk).failures ≡ (D.state self.old.vault.disk).failures) }

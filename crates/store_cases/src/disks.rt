@@ -193,7 +193,7 @@ pub fn failures(alloc: Global, cases: &mut Cases) -> R<String> {
     Ok(format!(in alloc; "{failures}")?)
 }
 
-/// `clean`: whether the last opening met no fault while it removed what the root does not name.
+/// `clean`: whether no cleaning met a fault since one of the whole dataset.
 pub fn clean(alloc: Global, cases: &mut Cases) -> R<String> {
     match &cases.store {
         Some(store) => yes_or_no(alloc, store.is_clean()),

@@ -7,6 +7,7 @@ mod ImportEnds
 mod OpenOverMoreColumns
 mod ColumnsAdded
 mod WhatRemains
+mod AbsentParts
 mod ReplacingOneGroup
 mod RemovalEnds
 mod GroupsReplaced

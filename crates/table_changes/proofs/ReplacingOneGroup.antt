@@ -40,8 +40,7 @@ use Rattle.table_commits.proofs.WaitingRows.{same_length}
 use Rattle.table_commits.proofs.OneFileMore.{failed_since as failed_on, wrote_so, one_more}
 use Rattle.table_commits.proofs.SparedDisks.{read_spares, spares_on}
 use Rattle.table_commits.proofs.StoredStays.{jobs_on, hold_same}
-use Rattle.table_commits.proofs.PartFilesWritten.{same_use}
-use Rattle.table_commits.proofs.AfterCleanings.{still}
+use Rattle.table_commits.proofs.AfterCleanings.{read_still}
 use Rattle.table_reads.proofs.FetchesGoOn.{stored_left}
 use Rattle.table_commits.proofs.RowsWithoutKeys.{stored_rows, stored_fit}
 
@@ -64,7 +63,7 @@ module _ {D : Type 0} (state : D → DiskState) (start now : Core D) (s : State)
         record {
           rises = w.rises;
           spares = spares_on keys (IsBelow keys s.next_group) (state start.vault.disk) old new w.spares (spared (IsBelow keys s.next_group));
-          shows = (still state now (counted s counter) w.shows is_open vault now.snapshots (λ q. Unit {0}) tt (λ f low held. tt) (spared (λ q. Unit {0})) (same_use versions versions refl) (w.shows.shown is_open).files).shows;
+          shows = (read_still state now (counted s counter) w.shows is_open vault leaves).shows;
           jobs = jobs_on keys s.table.schema s.next_group s.next_group s.options.group_rows (omega arith) s.had s.had (λ n low e. e) versions versions (λ q. Unit {0}) (λ f low held. tt) old new (spared (λ q. Unit {0}))
               (hold_same versions.jobs versions.jobs refl) now.jobs.items s.jobs w.jobs;
         }

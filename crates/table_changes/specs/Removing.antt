@@ -1,6 +1,6 @@
 -- What a removal leaves of the groups of a table, and what comes in the place of each.
 use Rattle.std.specs.Prelude.{◌≡◌, ◌≤◌, ◌+◌, ℕ, Bool, true, false, not, List, [], ◌∷◌, ◌++◌, map, filter, drop, length, Contains, None, Result, Ok, Err}
-use Rattle.std.specs.List.{list_any, AllZip}
+use Rattle.std.specs.List.{list_any, AllZip, AllByRecursion}
 use Rattle.bits.specs.declared.refusal.Refusal.{Refusal}
 use Rattle.bits.specs.declared.refusal.Refusal.TheVariants.{Limit, Device, Memory}
 use Rattle.schema.specs.Keys.{row_without_keys}
@@ -13,6 +13,8 @@ use Rattle.gather.specs.KeyBuffers.{HoldsRows}
 use Rattle.manifest.specs.Groups.{Group as FileGroup, Root, root_of}
 use Rattle.manifest.specs.Root.{stored_of}
 use Rattle.planning.specs.Replaced.{Change, changes_view}
+use Rattle.scan.specs.Absent.{CanHoldNone}
+use Rattle.table_reads.specs.Counting.{LacksIn}
 use Rattle.table.specs.Table.{Row, Key, Group, rows}
 use Rattle.table.specs.Leading.{touched}
 use Rattle.table.specs.Limits.{IsFileTooMuch}
@@ -39,6 +41,10 @@ pub record AreRemains (tests : List (List Test)) (root : Root) (f : FileGroup) (
   pub key : key_view r.rest.key ≡ f.key
   pub gone : r.gone ≡ length (filter (all_satisfied tests) g.rows)
   pub rest : 1 ≤ r.gone → HoldsRows (stored_of root) (map (row_without_keys root.keys) (not_those (all_satisfied tests) g.rows)) r.rest
+
+-- no file that the root can mean by one of its groups has a row that satisfies, where the group's part file is absent
+abbrev pub HoldNoneIfAbsent : DiskState → List (List Test) → Root → Type 0
+HoldNoneIfAbsent disk tests root = AllByRecursion (λ f. LacksIn disk root f → CanHoldNone tests root.keys root.schema f) root.groups
 
 -- In the place of a group it stays itself, nothing comes, or a file of the rest of its rows comes.
 pub data Outcome : Type 0 where

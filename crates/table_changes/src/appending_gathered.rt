@@ -8,6 +8,7 @@ ghost use Rattle.gather.specs.KeyBuffers.{HoldGroups};
 ghost use Rattle.manifest.specs.Groups.{root_of};
 ghost use Rattle.manifest.specs.Root.{stored_of};
 ghost use Rattle.table.specs.Table.{Row as TableRow};
+ghost use Rattle.table_commits.specs.Cleaning.{IsTidy, LeavesTidyOverRows};
 ghost use Rattle.table_commits.specs.Gathering.{AreGatheredFor};
 ghost use Rattle.table.specs.State.{State};
 ghost use Rattle.table.specs.Calls.{append, done};
@@ -44,6 +45,9 @@ pub fn append_gathered<D: Disk>(
         → Acts D.state store.old store.new (append rows) (answered done result) }
     ensures cause { (rows : List TableRow) → holds gathered.entry rows → AreGatheredFor (root_of store.old.manifest) store.old.options gathered.entry
         → HasCause D.state store.old store.new (answered done result) }
+    // If a row was appended, no part file is left that nothing needs, unless a cleaning met a fault, or the store keeps what is replaced.
+    ensures tidy { (rows : List TableRow) → holds gathered.entry rows → AreGatheredFor (root_of store.old.manifest) store.old.options gathered.entry
+        → LeavesTidyOverRows D.state store.old store.new result }
     ensures other { (AreGatheredFor (root_of store.old.manifest) store.old.options gathered.entry → ⊥) → store.old.closed ≡ false
         → (result ≡ Err Refusal.Schema) × (store.new ≡ store.old) }
     ensures closed { StaysClosed store.old store.new result }
@@ -96,6 +100,9 @@ fn append_groups<D: Disk>(
         → fault s (append rows) ≡ None → rows ≢ [] → count ≡ length rows
         → HoldGroups s.table.keys s.options.group_rows (stored_of (root_of store.old.manifest)) rows groups.entry.items
         → is_failure (answered done result) ≡ true → HasFailed (D.state store.old.vault.disk) (D.state store.new.vault.disk) }
+    ensures tidy { (D.state store.old.vault.disk).honest → (s : State) → Stands D.state store.old s → s.closed ≡ false → (rows : List TableRow)
+        → fault s (append rows) ≡ None → HoldGroups s.table.keys s.options.group_rows (stored_of (root_of store.old.manifest)) rows groups.entry.items
+        → store.old.keeps ≡ false → IfOk result (λ n. n ≢ 0 → IsTidy D.state store.new) }
     ensures doubt { ClosesInDoubt store.new result }
     ensures counted { IfOk result (λ n. n ≡ count) }
     ensures kept { OnErr result (LeavesTable store.old store.new) }

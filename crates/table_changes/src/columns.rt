@@ -4,6 +4,7 @@ ghost use Rattle.std.specs.Prelude.{◌≤◌, ◌↔◌, OnErr};
 ghost use Rattle.schema.specs.Elements.{elements_view};
 ghost use Rattle.table.specs.Calls.{add_column, done};
 ghost use Rattle.table.specs.Views.{answered};
+ghost use Rattle.table_commits.specs.Cleaning.{LeavesTidy};
 ghost use Rattle.table_state.specs.Promises.{Acts, HasCause, StaysClosed, ClosesInDoubt, LeavesTable, TouchesTable};
 
 use crate::widening::widened;
@@ -23,6 +24,8 @@ use table_state::Core;
 pub fn add_column<D: Disk>(store: &mut Core<D>, alloc: Global, elements: &[Element]) -> R<u64>
     ensures acts { Acts D.state store.old store.new (add_column (elements_view elements.now)) (answered done result) }
     ensures cause { HasCause D.state store.old store.new (answered done result) }
+    // No part file is left that nothing needs, unless a cleaning met a fault, or the store keeps what is replaced.
+    ensures tidy { LeavesTidy D.state store.old store.new result }
     ensures closed { StaysClosed store.old store.new result }
     ensures doubt { ClosesInDoubt store.new result }
     ensures kept { OnErr result (LeavesTable store.old store.new) }

@@ -1,12 +1,13 @@
 //! The removal of groups.
 
-ghost use Rattle.std.specs.Prelude.{◌≡◌, ◌+◌, ◌≤◌, ◌↔◌, [], IfOk, IfSome, OnErr};
+ghost use Rattle.std.specs.Prelude.{◌≡◌, ◌≢◌, ◌+◌, ◌≤◌, ◌↔◌, [], IfOk, IfSome, OnErr};
 ghost use Rattle.bits.specs.Refusals.{RefusedMemoryOnly};
 ghost use Rattle.manifest.specs.Groups.{root_of, groups_in};
 ghost use Rattle.planning.specs.Replaced.{without};
 ghost use Rattle.table_commits.specs.Dropping.{rows_in};
 ghost use Rattle.table.specs.Calls.{remove_groups, done};
 ghost use Rattle.table.specs.Views.{answered};
+ghost use Rattle.table_commits.specs.Cleaning.{LeavesTidy};
 ghost use Rattle.table_state.specs.Promises.{Acts, HasCause, StaysClosed, ClosesInDoubt, LeavesTable, TouchesTable};
 
 use bits::{R, Refusal};
@@ -29,6 +30,8 @@ pub(crate) struct Removal {
 pub fn remove_groups<D: Disk>(store: &mut Core<D>, alloc: Global, numbers: &[u64]) -> R<u64>
     ensures acts { Acts D.state store.old store.new (remove_groups numbers.now) (answered done result) }
     ensures cause { HasCause D.state store.old store.new (answered done result) }
+    // Unless there are no numbers, no part file is left that nothing needs, unless a cleaning met a fault, or the store keeps what is replaced.
+    ensures tidy { numbers.now ≢ [] → LeavesTidy D.state store.old store.new result }
     ensures closed { StaysClosed store.old store.new result }
     ensures doubt { ClosesInDoubt store.new result }
     ensures unwritten { numbers.now ≡ [] → store.new ≡ store.old }

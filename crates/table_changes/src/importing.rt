@@ -3,6 +3,7 @@
 ghost use Rattle.std.specs.Prelude.{◌≡◌, ◌≤◌, ◌↔◌, IfOk, OnErr};
 ghost use Rattle.table.specs.Calls.{import, done};
 ghost use Rattle.table.specs.Views.{answered};
+ghost use Rattle.table_commits.specs.Cleaning.{LeavesTidyOverRows};
 ghost use Rattle.table_state.specs.Promises.{Acts, HasCause, StaysClosed, ClosesInDoubt, LeavesTable, TouchesTable};
 
 use crate::appending_gathered::append_gathered;
@@ -21,6 +22,8 @@ use table_state::{Core, MOST_NUMBERS};
 pub fn import<D: Disk>(store: &mut Core<D>, alloc: Global, bytes: &[u8]) -> R<u64>
     ensures acts { Acts D.state store.old store.new (import bytes.now) (answered done result) }
     ensures cause { HasCause D.state store.old store.new (answered done result) }
+    // If a row was appended, no part file is left that nothing needs, unless a cleaning met a fault, or the store keeps what is replaced.
+    ensures tidy { LeavesTidyOverRows D.state store.old store.new result }
     ensures closed { StaysClosed store.old store.new result }
     ensures doubt { ClosesInDoubt store.new result }
     ensures unwritten { IfOk result (λ n. n ≡ 0 → store.new ≡ store.old) }

@@ -8,12 +8,13 @@ ghost use Rattle.schema.specs.Views.{key_view};
 ghost use Rattle.filter.specs.Test.{tests_in};
 ghost use Rattle.manifest.specs.Groups.{Group as FileGroup, group_view, root_of};
 ghost use Rattle.manifest.specs.Root.{stored_of};
+ghost use Rattle.scan.specs.Absent.{CanHoldNone};
 ghost use Rattle.scan.specs.Faults.{IsDevice};
 ghost use Rattle.scan.specs.Left.{rows_held, others_held};
 ghost use Rattle.table.specs.Table.{Row as TableRow, Group as TableGroup};
 ghost use Rattle.gather.specs.KeyBuffers.{HoldsRows};
 ghost use Rattle.table_state.specs.Promises.{IsSure};
-ghost use Rattle.table_reads.specs.Counting.{IsHeld};
+ghost use Rattle.table_reads.specs.Counting.{CanFilter, IsHeld, LacksIn};
 ghost use Rattle.table_reads.specs.Reading.{OnlyReads};
 ghost use Rattle.table_changes.specs.Removing.{AreRemains};
 
@@ -50,6 +51,9 @@ pub(crate) fn remains_at<'a, D: Disk>(
         → IfOk result (λ r. AreRemains (tests_in filter.now) (root_of table.now) f g r) }
     ensures only { (D.state vault.old.disk).honest → (f : FileGroup) (g : TableGroup) → slice_get (root_of table.now).groups place ≡ Some f → IsHeld (D.state vault.old.disk) (tests_in filter.now) (root_of table.now) f g
         → RefusedOnly IsDevice result }
+    ensures absent { (D.state vault.old.disk).honest → CanFilter (tests_in filter.now) (root_of table.now) → (f : FileGroup)
+        → slice_get (root_of table.now).groups place ≡ Some f → LacksIn (D.state vault.old.disk) (root_of table.now) f
+        → IfOk result (λ r. (r.gone ≡ 0) × CanHoldNone (tests_in filter.now) (root_of table.now).keys (root_of table.now).schema f) }
     ensures effect { OnlyReads (D.state vault.old.disk) (D.state vault.new.disk) result }
     ensures sure { IsSure result }
 {
@@ -71,12 +75,16 @@ fn remains_of<'a, D: Disk>(
         → IfOk result (λ r. AreRemains (tests_in filter.now) (root_of table.now) (group_view group.now) g r) }
     ensures only { (D.state vault.old.disk).honest → (g : TableGroup) → IsHeld (D.state vault.old.disk) (tests_in filter.now) (root_of table.now) (group_view group.now) g
         → RefusedOnly IsDevice result }
+    ensures absent { (D.state vault.old.disk).honest → CanFilter (tests_in filter.now) (root_of table.now) → LacksIn (D.state vault.old.disk) (root_of table.now) (group_view group.now)
+        → IfOk result (λ r. (r.gone ≡ 0) × CanHoldNone (tests_in filter.now) (root_of table.now).keys (root_of table.now).schema (group_view group.now)) }
     ensures effect { OnlyReads (D.state vault.old.disk) (D.state vault.new.disk) result }
     ensures sure { IsSure result }
 {
     // For the proof: the rows of a part file fit the table.
     manifest::rows_of_parts_fit();
     let places = stored_places(alloc, table.schema().fields(), table.keys())?;
+    // For the proof: what is known of the schema.
+    let _ = table.schema().leaves();
     match GroupRows::read(
         alloc,
         vault,

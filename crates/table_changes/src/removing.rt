@@ -1,20 +1,21 @@
 //! The removal of rows.
 
-ghost use Rattle.std.specs.Prelude.{◌≡◌, ◌≤◌, ◌<◌, ◌+◌, ◌↔◌, ◌⊎◌, ℕ, List, [], ◌∷◌, ◌++◌, true, false, None, Ok, IfOk, OnOk, OnErr, length};
-ghost use Rattle.std.specs.List.{AllByRecursion};
+ghost use Rattle.std.specs.Prelude.{◌≡◌, ◌≢◌, ◌≤◌, ◌<◌, ◌+◌, ◌↔◌, ◌⊎◌, ℕ, List, [], ◌∷◌, ◌++◌, true, false, Some, None, Ok, IfOk, OnOk, OnErr, length};
+ghost use Rattle.std.specs.List.{AllByRecursion, slice_get};
 ghost use Rattle.bits.specs.Refusals.{RefusedMemoryOnly};
 ghost use Rattle.schema.specs.Stripe.{leaves_of};
 ghost use Rattle.schema.specs.Views.{key_view};
 ghost use Rattle.vault.specs.Calls.{HasFailed};
 ghost use Rattle.filter.specs.Deciding.{satisfies as all_satisfied};
 ghost use Rattle.filter.specs.Terms.{tests_of, terms_view};
-ghost use Rattle.filter.specs.Test.{tests_in};
+ghost use Rattle.filter.specs.Test.{Test, tests_in};
 ghost use Rattle.gather.specs.KeyBuffers.{HoldsRows};
 ghost use Rattle.manifest.specs.Groups.{Group as Described, root_of, groups_in, handles_view};
 ghost use Rattle.manifest.specs.Root.{CanHave, stored_of};
 ghost use Rattle.planning.specs.Numbered.{brought};
 ghost use Rattle.planning.specs.Replaced.{changes_view, replaced};
 ghost use Rattle.planning.specs.Told.{IsNextOf};
+ghost use Rattle.scan.specs.Absent.{CanHoldNone};
 ghost use Rattle.table.specs.Deciding.{Filter as Terms};
 ghost use Rattle.table.specs.Table.{Row as TableRow, Group as TableGroup};
 ghost use Rattle.table.specs.State.{State};
@@ -23,10 +24,12 @@ ghost use Rattle.table.specs.Checks.{fault};
 ghost use Rattle.table.specs.Refusing.{is_failure};
 ghost use Rattle.table.specs.Views.{answered};
 ghost use Rattle.table_state.specs.Buffers.{buffer};
+ghost use Rattle.table_commits.specs.Cleaning.{IsTidy, LeavesTidyOverRows};
 ghost use Rattle.table_commits.specs.Filling.{HasWritten, IsBuffer};
 ghost use Rattle.table_state.specs.Promises.{Acts, ActsFrom, HasCause, StaysClosed, IsSure, ClosesInDoubt, LeavesTable, TouchesTable};
 ghost use Rattle.table_commits.specs.Keeping.{Unwritten};
-ghost use Rattle.table_changes.specs.Removing.{Puts, HasReplaced, Replaces, ReplacesAll};
+ghost use Rattle.table_reads.specs.Counting.{AreAsked, CanFilter, LacksIn};
+ghost use Rattle.table_changes.specs.Removing.{Puts, HasReplaced, HoldNoneIfAbsent, Replaces, ReplacesAll};
 ghost use Rattle.table_state.specs.Stands.{Stands};
 
 use crate::remaining::{Remains, remains_at};
@@ -61,8 +64,12 @@ pub(crate) struct Removed {
 pub fn remove<D: Disk>(store: &mut Core<D>, alloc: Global, terms: &[Vec<Term>]) -> R<u64>
     ensures acts { Acts D.state store.old store.new (remove (terms_view terms.now)) (answered done result) }
     ensures cause { HasCause D.state store.old store.new (answered done result) }
+    // If a row was removed, no part file is left that nothing needs, unless a cleaning met a fault, or the store keeps what is replaced.
+    ensures tidy { LeavesTidyOverRows D.state store.old store.new result }
     ensures closed { StaysClosed store.old store.new result }
     ensures doubt { ClosesInDoubt store.new result }
+    ensures absent { (D.state store.old.vault.disk).honest → (tests : List (List Test)) → AreAsked (root_of store.old.manifest) (terms_view terms.now) tests
+        → IfOk result (λ n. n ≡ 0 → HoldNoneIfAbsent (D.state store.old.vault.disk) tests (root_of store.old.manifest)) }
     ensures unwritten { IfOk result (λ n. n ≡ 0 → Unwritten D.state store.old store.new) }
     ensures kept { OnErr result (LeavesTable store.old store.new) }
     ensures touches { TouchesTable store.old store.new }
@@ -85,6 +92,10 @@ fn remove_rows<D: Disk>(store: &mut Core<D>, alloc: Global, filter: &Filter) -> 
         → ActsFrom D.state store.old store.new (remove terms) (answered done result) s }
     ensures cause { (D.state store.old.vault.disk).honest → (s : State) (terms : Terms) → Stands D.state store.old s → s.closed ≡ false → fault s (remove terms) ≡ None → tests_of (leaves_of s.table.schema) terms ≡ Ok (tests_in filter.now)
         → is_failure (answered done result) ≡ true → HasFailed (D.state store.old.vault.disk) (D.state store.new.vault.disk) }
+    ensures absent { (D.state store.old.vault.disk).honest → CanFilter (tests_in filter.now) (root_of store.old.manifest)
+        → IfOk result (λ n. n ≡ 0 → HoldNoneIfAbsent (D.state store.old.vault.disk) (tests_in filter.now) (root_of store.old.manifest)) }
+    ensures tidy { (D.state store.old.vault.disk).honest → (s : State) → Stands D.state store.old s → s.closed ≡ false → (terms : Terms) → fault s (remove terms) ≡ None → tests_of (leaves_of s.table.schema) terms ≡ Ok (tests_in filter.now)
+        → store.old.keeps ≡ false → IfOk result (λ n. n ≢ 0 → IsTidy D.state store.new) }
     ensures doubt { ClosesInDoubt store.new result }
     ensures unwritten { IfOk result (λ n. n ≡ 0 → Unwritten D.state store.old store.new) }
     ensures kept { OnErr result (LeavesTable store.old store.new) }
@@ -113,6 +124,8 @@ fn replace_groups<D: Disk>(
     ensures replaces { (D.state store.old.vault.disk).honest → (s : State) (terms : Terms) → root_of table.now ≡ root_of store.old.manifest → s.closed ≡ false → tests_of (leaves_of s.table.schema) terms ≡ Ok (tests_in filter.now)
         → HasWritten D.state store.old store.old s None [] [] → store.old.next_group ≡ s.next_group
         → ReplacesAll D.state store.old store.new s (all_satisfied (tests_in filter.now)) result }
+    ensures absent { (D.state store.old.vault.disk).honest → root_of table.now ≡ root_of store.old.manifest → CanFilter (tests_in filter.now) (root_of store.old.manifest)
+        → IfOk result (λ removed. removed.count ≡ 0 → HoldNoneIfAbsent (D.state store.old.vault.disk) (tests_in filter.now) (root_of store.old.manifest)) }
     ensures fit { IfOk result (λ removed. CanHave (root_of store.old.manifest) (brought (changes_view removed.changes.items))) }
     ensures unwritten { IfOk result (λ removed. removed.count ≡ 0 → Unwritten D.state store.old store.new) }
     ensures same { store.new ≡ record store.old { vault = store.new.vault; snapshots = store.new.snapshots; next_group = store.new.next_group } }
@@ -144,6 +157,9 @@ fn replace_group<D: Disk>(
     ensures replaces { (D.state store.old.vault.disk).honest → (start : Core D) (s : State) (terms : Terms) → root_of table.now ≡ root_of store.old.manifest → s.closed ≡ false → tests_of (leaves_of s.table.schema) terms ≡ Ok (tests_in filter.now)
         → place < length (root_of store.old.manifest).groups → HasReplaced D.state start store.old s (all_satisfied (tests_in filter.now)) place removed.old
         → Replaces D.state start store.new s (all_satisfied (tests_in filter.now)) (place + 1) removed.new result }
+    ensures absent { (D.state store.old.vault.disk).honest → CanFilter (tests_in filter.now) (root_of table.now) → (f : Described)
+        → slice_get (root_of table.now).groups place ≡ Some f → LacksIn (D.state store.old.vault.disk) (root_of table.now) f
+        → OnOk result (CanHoldNone (tests_in filter.now) (root_of table.now).keys (root_of table.now).schema f) }
     ensures fit { OnOk result (CanHave (root_of store.old.manifest) (brought (changes_view removed.old.changes.items))
         → CanHave (root_of store.old.manifest) (brought (changes_view removed.new.changes.items))) }
     ensures rises { OnOk result (removed.old.count ≤ removed.new.count) }

@@ -7,8 +7,8 @@ use Rattle.bits.specs.Refusals.{HasCause}
 use Rattle.disk.specs.State.{State as DiskState}
 use Rattle.manifest.specs.Groups.{Group as FileGroup, Root, root_of}
 use Rattle.manifest.specs.Root.{RootMeans}
-use Rattle.snapshots.specs.State.{committed, after, fault_of}
-use Rattle.snapshots.specs.Views.{state_of}
+use Rattle.snapshots.specs.State.{State as Versions, committed, after, fault_of}
+use Rattle.snapshots.specs.Views.{state_of, prepared_of}
 use Rattle.table.specs.Table.{Table}
 use Rattle.table.specs.State.{State, Job}
 use Rattle.table.specs.Stops.{Survives}
@@ -21,6 +21,11 @@ use Rattle.table_commits.specs.Cleaning.{Clears}
 use Rattle.table_commits.proofs.PartFilesWritten.{failed}
 use Rattle.table_commits.proofs.StateCarriedOver.{past_on}
 use Rattle.table_commits.proofs.AfterCleanings.{nothing_cleared}
+
+-- the versions are prepared for what the turn has
+pub prepared_so : (versions : Versions) (root : Root) (job : Option ℕ) (turn : Turn) → IsMade versions root job turn → prepared_of turn.prepared ≡ after versions (committed (root_of turn.manifest).groups turn.job)
+prepared_so versions root job turn made =
+    made.prepared_is ∙ ap (λ (r : Root). after versions (committed r.groups job)) (sym made.manifest_is) ∙ ap (λ (j : Option ℕ). after versions (committed (root_of turn.manifest).groups j)) (sym made.job_is)
 
 module _ {D : Type 0} (state : D → DiskState) (store : Core D) (s : State) (t : Table) (jobs : List (ℕ × Job)) (shows : Shows state store s) (is_open : s.closed ≡ false) (job : Option ℕ) (root : Root)
     (planned : IsPlanned (state store.vault.disk) store s t jobs job root) where
@@ -44,8 +49,7 @@ module _ {D : Type 0} (state : D → DiskState) (store : Core D) (s : State) (t 
           stored = subst (λ (gs : List FileGroup). AreStored disk t.keys t.schema s.next_group gs t.groups) (sym groups) planned.stored;
         };
         jobs_are = subst (λ (j : Option ℕ). ShowsJobsLeft disk store s t j jobs) (sym made.job_is) planned.jobs_are;
-        prepared = made.prepared_is ∙ ap (λ (gs : List FileGroup). after (state_of store.snapshots) (committed gs job)) (sym groups)
-            ∙ ap (λ (j : Option ℕ). after (state_of store.snapshots) (committed (root_of turn.manifest).groups j)) (sym made.job_is);
+        prepared = prepared_so (state_of store.snapshots) root job turn made;
       }
 
   -- it was not made

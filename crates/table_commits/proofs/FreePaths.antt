@@ -15,7 +15,7 @@ use Rattle.table_state.specs.Stands.{Shows, ShowsOpen, Stands}
 use Rattle.table_commits.specs.Keeping.{IsFreePath, NewFilesAreFree}
 use Rattle.table_commits.proofs.StateCarriedOver.{shown}
 use Rattle.table_commits.proofs.SparedDisks.{below_not_part}
-use Rattle.table_commits.proofs.NothingOpen.{stored_there}
+use Rattle.table_commits.proofs.StoredStays.{stored_there}
 
 -- what a store stands for does not depend on what it keeps
 module _ {D : Type 0} (state : D → DiskState) (store : Core D) (s : State) where
@@ -39,6 +39,7 @@ module _ {D : Type 0} (state : D → DiskState) (store : Core D) (s : State) whe
     numbered_cursors = o.numbered_cursors;
     parted = o.parted;
     files = o.files;
+    tracked = o.tracked;
   }
 
   shows_keeping : Shows state store s → Shows state keeping s

@@ -105,7 +105,7 @@ module _ {D : Type 0} (state : D → DiskState) (store : Core D) (s : State) (sh
   next = record s { jobs = changed_at x.number j s.jobs }
 
   pub job_changed : Shows state (record store { jobs = jobs }) next
-  job_changed = shows_open state store s shows is_open store.snapshots jobs store.cursors store.next_job store.next_cursor s.next_job s.next_cursor (changed_at x.number j s.jobs) s.cursors refl shows.next_job shows.next_cursor
+  job_changed = shows_open state store s shows is_open store.snapshots jobs store.cursors store.next_job store.next_cursor s.next_job s.next_cursor (changed_at x.number j s.jobs) s.cursors refl refl shows.next_job shows.next_cursor
       (subst (λ (js : List OpenJob). IsOpenSo (state store.vault.disk) (state_of store.snapshots) next js store.cursors.items) (sym changed) (record {
         jobs = jobs_changed_shown (state store.vault.disk) s.table.keys s.table.schema s.next_group s.options.group_rows s.had (state_of store.snapshots).jobs (state_of store.snapshots).jobs x j is (λ m e. refl) store.jobs.items s.jobs here.jobs;
         cursors = here.cursors;

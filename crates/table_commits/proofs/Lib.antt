@@ -1,6 +1,8 @@
 pub mod SparedDisks
 pub mod FilesInUse
 pub mod StoredStays
+pub mod TrackedFiles
+pub mod NeededFiles
 pub mod JobsAfterCommits
 pub mod SoundDisks
 pub mod StateCarriedOver

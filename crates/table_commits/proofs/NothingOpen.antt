@@ -1,5 +1,5 @@
 -- Where nothing is open, nothing needs a file that the root does not name.
-use Rattle.std.proofs.Common.{◌≡◌, ℕ, zero, suc, Bool, true, false, ◌==◌, ◌||◌, eqb-true, List, [], ◌∷◌, reverse, refl, sym, ◌∙◌, ap, subst, arith, inl, inr}
+use Rattle.std.proofs.Common.{◌≡◌, ◌≤◌, ◌^◌, ℕ, suc, Bool, true, false, ◌==◌, ◌||◌, eqb-true, List, [], ◌∷◌, reverse, refl, sym, ◌∙◌, ap, subst, arith, inl, inr}
 use Rattle.std.specs.Prelude.{Contains, IsTrue}
 use Rattle.std.specs.List.{list_any}
 use Rattle.std.specs.Ordering.{is_eq}
@@ -18,7 +18,7 @@ use Rattle.partition.specs.Folders.{is_key, part_path_of}
 use Rattle.partition.specs.Order.{key_cmp}
 use Rattle.partition.proofs.SameKeys.{equal_key}
 use Rattle.manifest.specs.Groups.{Group as FileGroup, Root, root_of}
-use Rattle.recovery.specs.Opening.{IsLitter, AllButLitter, Cleans}
+use Rattle.recovery.specs.Opening.{IsLitter, AllButLitter, Cleans, IsClean}
 use Rattle.snapshots.specs.State.{State as Versions, Pins, File, file_of, is_same, names, is_pinned, is_needed}
 use Rattle.snapshots.specs.Views.{state_of}
 use Rattle.table.specs.Table.{Group}
@@ -30,6 +30,7 @@ use Rattle.table_state.specs.Spares.{Agrees, Spares}
 use Rattle.table_state.specs.Stands.{AreStored, Shows, ShowsOpen, numbers_at, job_numbers, cursor_numbers}
 use Rattle.table_commits.specs.Cleaning.{Clears}
 use Rattle.table_commits.proofs.StoredStays.{IsFileBelow, InUse}
+use Rattle.table_commits.proofs.TrackedFiles.{clean_names, current_tracked}
 use Rattle.table_commits.proofs.StateCarriedOver.{shown}
 use Rattle.table_commits.proofs.PartFilesWritten.{same_use}
 use Rattle.table_commits.proofs.AfterCleanings.{still}
@@ -54,13 +55,6 @@ named_now v cursors jobs f needed = first_only (names v.current f) (list_any (λ
 -- ---- where a file stands that is named
 
 module _ (disk : DiskState) (keys : List KeyColumn) (schema : Fields) (count : ℕ) where
-  pub stored_there : (files : List FileGroup) (groups : List Group) → AreStored disk keys schema count files groups → (f : FileGroup) → Contains files f → IsFileBelow keys count f
-  stored_there [] [] z f c = absurd (omega (arith, c.1))
-  stored_there [] (g ∷ gs) z f c = absurd z
-  stored_there (x ∷ xs) [] z f c = absurd z
-  stored_there (x ∷ xs) (g ∷ gs) z f (zero, l, is) = subst (λ (y : FileGroup). IsFileBelow keys count y) is (z.0.can, z.0.below)
-  stored_there (x ∷ xs) (g ∷ gs) z f (suc k, l, is) = stored_there xs gs z.1 f (k, omega (arith, l), is)
-
   -- a version that names a file has a group at its path
   abbrev HasAt : List FileGroup → File → Type 0
   HasAt files f = (g : FileGroup) × Contains files g × (part_path_of keys g.key g.number ≡ part_path_of keys f.key f.number)
@@ -127,7 +121,17 @@ module _ {D : Type 0} (state : D → DiskState) (store : Core D) (s : State) (sh
     clear = λ q place. clear q;
   }
 
-  pub cleaned_idle : (vault : Vault D) → Cleans root disk (state vault.disk) → (IsRooted disk → StaysRooted disk (state vault.disk)) → LeavesWays disk (state vault.disk) → Clears state store (record store { vault = vault }) s
-  cleaned_idle vault cleans rooted clear = still state store s shows is_open vault store.snapshots Needed root_is_no_litter named_is_no_litter
+  small : s.next_group ≤ 2 ^ 64
+  small = let c = shows.counted in omega (arith, c)
+
+  stored_here : AreStored disk root.keys s.table.schema s.next_group root.groups s.table.groups
+  stored_here = subst (λ (ks : List KeyColumn). AreStored disk ks s.table.schema s.next_group root.groups s.table.groups) (sym shows.keys) here.version
+
+  pub cleaned_idle : (vault : Vault D) (clean : Bool) → Cleans root disk (state vault.disk) → (IsRooted disk → StaysRooted disk (state vault.disk)) → LeavesWays disk (state vault.disk) → (clean ≡ true → IsClean root (state vault.disk))
+      → Clears state store (record store { vault = vault; clean = clean }) s
+  cleaned_idle vault clean cleans rooted clear is = still state store s shows is_open vault store.snapshots clean Needed root_is_no_litter named_is_no_litter
       (spared (state vault.disk) cleans rooted clear)
       (same_use versions versions refl) here.files
+      (λ e key number can fits bytes reads. current_tracked store.snapshots (record { number = number; key = key })
+      (subst (λ (gs : List FileGroup). names gs (record { number = number; key = key }) ≡ true) (sym here.current)
+      (clean_names root (state vault.disk) disk s.table.schema s.next_group s.table.groups shows.apart small stored_here (is e) key number can fits bytes reads)))

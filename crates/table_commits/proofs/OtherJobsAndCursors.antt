@@ -1,11 +1,11 @@
 -- A store that has other jobs, cursors and versions in use: its table, its root and its files are the same.
-use Rattle.std.proofs.Common.{◌≡◌, ℕ, false, List, refl, sym, ◌∙◌, ap, subst}
+use Rattle.std.proofs.Common.{◌≡◌, ℕ, false, List, sym, ◌∙◌, ap, subst}
 use Rattle.std.specs.Prelude.{Vec}
 use Rattle.std.specs.List.{AllZip}
 use Rattle.std.specs.declared.alloc.Global.{Global}
 use Rattle.schema.specs.Keys.{AreDistinct}
 use Rattle.disk.specs.State.{State as DiskState}
-use Rattle.manifest.specs.Groups.{numbers_of}
+use Rattle.manifest.specs.Groups.{numbers_of, root_of}
 use Rattle.snapshots.specs.declared.state.Snapshots.{Snapshots}
 use Rattle.snapshots.specs.State.{State as Versions}
 use Rattle.snapshots.specs.Views.{state_of}
@@ -15,6 +15,7 @@ use Rattle.table_state.specs.declared.standing.Core.{Core}
 use Rattle.table_state.specs.declared.jobs.OpenJob.{OpenJob}
 use Rattle.table_state.specs.declared.jobs.OpenCursor.{OpenCursor}
 use Rattle.table_state.specs.Stands.{AreFilesBelow, AreNumbered, TracksJobs, TracksCursors, ShowsJobs, ShowsCursor, ShowsOpen, Shows, numbers_at, written_in}
+use Rattle.table_commits.proofs.TrackedFiles.{tracked_as}
 
 -- what is open is shown, tracked and numbered
 pub record IsOpenSo (disk : DiskState) (versions : Versions) (s : State) (shown_jobs : List OpenJob) (shown_cursors : List OpenCursor) : Type 0 where
@@ -48,7 +49,7 @@ module _ {D : Type 0} (state : D → DiskState) (store : Core D) (s : State) (sh
   }
 
   module _ (snapshots : Snapshots) (jobs : Vec OpenJob Global) (cursors : Vec OpenCursor Global) (next_job next_cursor job_count cursor_count : ℕ) (js : List (ℕ × Job)) (cs : List (ℕ × Cursor))
-      (current : (state_of snapshots).current ≡ (state_of store.snapshots).current) (jobs_counted : next_job ≡ job_count) (cursors_counted : next_cursor ≡ cursor_count)
+      (current : (state_of snapshots).current ≡ (state_of store.snapshots).current) (files : (state_of snapshots).files ≡ (state_of store.snapshots).files) (jobs_counted : next_job ≡ job_count) (cursors_counted : next_cursor ≡ cursor_count)
       (is : IsOpenSo disk (state_of snapshots) (record s { jobs = js; cursors = cs; next_job = job_count; next_cursor = cursor_count }) jobs.items cursors.items) where
     pub shows_open : Shows state (record store { snapshots = snapshots; jobs = jobs; cursors = cursors; next_job = next_job; next_cursor = next_cursor })
         (record s { jobs = js; cursors = cs; next_job = job_count; next_cursor = cursor_count })
@@ -83,20 +84,13 @@ module _ {D : Type 0} (state : D → DiskState) (store : Core D) (s : State) (sh
         numbered_cursors = is.numbered_cursors;
         parted = is.parted;
         files = is.files;
+        tracked = λ clean. tracked_as disk (root_of store.manifest).keys (state_of store.snapshots) (state_of snapshots) files (shown.tracked clean);
       };
     }
-
-  -- the same with the store's own counters
-  pub shows_open_so : (snapshots : Snapshots) (jobs : Vec OpenJob Global) (cursors : Vec OpenCursor Global) (next_job next_cursor : ℕ) (js : List (ℕ × Job)) (cs : List (ℕ × Cursor))
-      → (state_of snapshots).current ≡ (state_of store.snapshots).current
-      → IsOpenSo disk (state_of snapshots) (record s { jobs = js; cursors = cs; next_job = next_job; next_cursor = next_cursor }) jobs.items cursors.items
-      → Shows state (record store { snapshots = snapshots; jobs = jobs; cursors = cursors; next_job = next_job; next_cursor = next_cursor })
-      (record s { jobs = js; cursors = cs; next_job = next_job; next_cursor = next_cursor })
-  shows_open_so snapshots jobs cursors next_job next_cursor js cs current is = shows_open snapshots jobs cursors next_job next_cursor next_job next_cursor js cs current refl refl is
 
   -- where all this lies in memory shows nothing
   pub shows_moved : (snapshots : Snapshots) (jobs : Vec OpenJob Global) (cursors : Vec OpenCursor Global) → state_of snapshots ≡ state_of store.snapshots → jobs.items ≡ store.jobs.items → cursors.items ≡ store.cursors.items
       → Shows state (record store { snapshots = snapshots; jobs = jobs; cursors = cursors }) s
-  shows_moved snapshots jobs cursors d e f = shows_open snapshots jobs cursors store.next_job store.next_cursor s.next_job s.next_cursor s.jobs s.cursors (ap (λ (v : Versions). v.current) d) shows.next_job shows.next_cursor
+  shows_moved snapshots jobs cursors d e f = shows_open snapshots jobs cursors store.next_job store.next_cursor s.next_job s.next_cursor s.jobs s.cursors (ap (λ (v : Versions). v.current) d) (ap (λ (v : Versions). v.files) d) shows.next_job shows.next_cursor
       (subst (λ (v : Versions). IsOpenSo disk v s jobs.items cursors.items) (sym d)
       (subst (λ (cs : List OpenCursor). IsOpenSo disk (state_of store.snapshots) s jobs.items cs) (sym f) (subst (λ (js : List OpenJob). IsOpenSo disk (state_of store.snapshots) s js store.cursors.items) (sym e) open_here)))

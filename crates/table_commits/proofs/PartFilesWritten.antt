@@ -13,12 +13,12 @@ use Rattle.schema.specs.Shape.{Fields}
 use Rattle.schema.specs.Keys.{KeyColumn}
 use Rattle.disk.specs.State.{State as DiskState}
 use Rattle.vault.specs.declared.vault.Vault.{Vault}
-use Rattle.vault.specs.Views.{IsKept}
+use Rattle.vault.specs.Views.{AllBut, ReadsAs, IsKept}
 use Rattle.vault.specs.Ways.{CanPut}
 use Rattle.vault.specs.Calls.{Puts}
 use Rattle.partition.specs.Folders.{CanPartition, part_path_of}
 use Rattle.manifest.specs.declared.group.Group.{Group as CodeGroup}
-use Rattle.manifest.specs.Groups.{Group as FileGroup, group_view}
+use Rattle.manifest.specs.Groups.{Group as FileGroup, group_view, root_of}
 use Rattle.snapshots.specs.declared.state.Snapshots.{Snapshots}
 use Rattle.snapshots.specs.State.{State as Versions, File, Pins, file_of, is_among, is_same, is_open, job_is_open, jobs_with, open_at, staged, after, with_file}
 use Rattle.snapshots.specs.Views.{state_of}
@@ -28,10 +28,11 @@ use Rattle.table_state.specs.declared.standing.Core.{Core}
 use Rattle.table_commits.specs.declared.part.Part.{Part}
 use Rattle.table_state.specs.Paths.{IsPartPath, IsBelow}
 use Rattle.table_state.specs.Spares.{Spares}
-use Rattle.table_state.specs.Stands.{AreFilesBelow, ShowsOpen, Shows, numbers_at}
+use Rattle.table_state.specs.Stands.{AreFilesBelow, AreTracked, ShowsOpen, Shows, numbers_at}
 use Rattle.table_commits.specs.Writing.{HoldsMore, HoldMore, IsHeldFor, IsSameUse, IsPartFor, Writes}
 use Rattle.table_commits.proofs.SparedDisks.{spares_here, put_spares, below_not_part}
 use Rattle.table_commits.proofs.FilesInUse.{same_itself}
+use Rattle.table_commits.proofs.TrackedFiles.{tracked_as, tracked_after_put}
 use Rattle.table_commits.proofs.StoredStays.{holds_same, hold_same, part_below}
 use Rattle.table_commits.proofs.StateCarriedOver.{carried}
 
@@ -151,7 +152,8 @@ module _ {D : Type 0} (state : D → DiskState) (store : Core D) (s : State) (jo
     spares = spares_here keys (IsBelow keys s.next_group) disk;
     shows = carried state store s shows is_open store.vault snapshots store.next_group (omega (arith, count_is)) (let l = shows.counted in omega (arith, l, count_is)) (IsBelow keys s.next_group) (inl refl) (λ f low held. inr (part_below keys s.next_group f low)) (spares_here keys (IsBelow keys s.next_group) disk)
         (same_use (state_of store.snapshots) (state_of snapshots) same)
-        (files_here store.next_group (state_of store.snapshots) (state_of snapshots) same (λ f there. let l = shown.files f there in omega (arith, l, count_is)));
+        (files_here store.next_group (state_of store.snapshots) (state_of snapshots) same (λ f there. let l = shown.files f there in omega (arith, l, count_is)))
+        store.clean (λ clean. tracked_as disk (root_of store.manifest).keys (state_of store.snapshots) (state_of snapshots) (ap (λ (v : Versions). v.files) same) (shown.tracked clean));
     in_use = same_use (state_of store.snapshots) (state_of snapshots) same;
     stored = tt;
     described = tt;
@@ -170,7 +172,7 @@ module _ {D : Type 0} (state : D → DiskState) (store : Core D) (s : State) (jo
     pub can_put : disk.honest → CanPut disk (string_bytes part.path)
     can_put honest = (honest, shows.room (string_bytes part.path) (inr (inr part_path)))
 
-    module _ (tracked : Rc CodeGroup Global) (number_is : (group_view (rc_value tracked)).number ≡ s.next_group) (snapshots : Snapshots)
+    module _ (tracked : Rc CodeGroup Global) (number_is : (group_view (rc_value tracked)).number ≡ s.next_group) (key_is : (group_view (rc_value tracked)).key ≡ key) (snapshots : Snapshots)
         (stepped : state_of snapshots ≡ after (state_of store.snapshots) (staged job (file_of (group_view (rc_value tracked))))) where
       use_here : IsSameUse (state_of store.snapshots) (state_of snapshots)
       use_here = staged_use job (file_of (group_view (rc_value tracked))) (state_of store.snapshots) (state_of snapshots) stepped
@@ -188,8 +190,22 @@ module _ {D : Type 0} (state : D → DiskState) (store : Core D) (s : State) (jo
         puts_spare bytes result puts = put_spares keys shows.apart (IsBelow keys s.next_group) (string_bytes part.path) bytes disk (state vault.disk) result part_path
             (below_not_part keys shows.apart s.next_group (string_bytes part.path) part_path (omega arith)) puts
 
-        shows_after : Spares keys (IsBelow keys s.next_group) disk (state vault.disk) → Shows state (record store { vault = vault; snapshots = snapshots; next_group = count }) (record s { next_group = count })
-        shows_after spares = carried state store s shows is_open vault snapshots count (omega (arith, count_is)) (omega (arith, counter)) (IsBelow keys s.next_group) (inl refl) (λ f low held. inr (part_below keys s.next_group f low)) spares use_here files_below
+        file_is : file_of (group_view (rc_value tracked)) ≡ record { number = s.next_group; key = key }
+        file_is = cc (number_is, key_is)
+
+        -- the file was staged before it was put
+        tracked_now : ReadsAs (AllBut (string_bytes part.path)) disk (state vault.disk) → store.clean ≡ true → AreTracked (state vault.disk) (root_of store.manifest).keys (state_of snapshots)
+        tracked_now seen clean =
+            subst (λ (ks : List KeyColumn). AreTracked (state vault.disk) ks (state_of snapshots)) (sym shows.keys)
+            (tracked_after_put keys (state_of store.snapshots) shows.apart key s.next_group ready.can shows.counted (state_of snapshots) job
+            (stepped ∙ ap (λ (f : File). after (state_of store.snapshots) (staged job f)) file_is) disk (state vault.disk)
+            (subst (λ (p : List ℕ). ReadsAs (AllBut p) disk (state vault.disk)) ready.path_is seen)
+            (subst (λ (ks : List KeyColumn). AreTracked disk ks (state_of store.snapshots)) shows.keys (shown.tracked clean)))
+
+        shows_after : Spares keys (IsBelow keys s.next_group) disk (state vault.disk) → ReadsAs (AllBut (string_bytes part.path)) disk (state vault.disk)
+            → Shows state (record store { vault = vault; snapshots = snapshots; next_group = count }) (record s { next_group = count })
+        shows_after spares seen = carried state store s shows is_open vault snapshots count (omega (arith, count_is)) (omega (arith, counter)) (IsBelow keys s.next_group) (inl refl) (λ f low held. inr (part_below keys s.next_group f low)) spares use_here files_below
+            store.clean (tracked_now seen)
 
         pub put_refused : {T : Type 0} (bytes : List ℕ) (e : Refusal) → Puts (string_bytes part.path) bytes disk (state vault.disk) (failed T e)
             → Writes state store (record store { vault = vault; snapshots = snapshots; next_group = count }) job key rows (Err e) s
@@ -197,7 +213,7 @@ module _ {D : Type 0} (state : D → DiskState) (store : Core D) (s : State) (jo
           no_less = omega arith;
           no_more = omega arith;
           spares = spares;
-          shows = shows_after spares;
+          shows = shows_after spares puts.seen;
           in_use = use_here;
           stored = tt;
           described = tt;
@@ -211,7 +227,7 @@ module _ {D : Type 0} (state : D → DiskState) (store : Core D) (s : State) (jo
           no_less = omega arith;
           no_more = omega arith;
           spares = spares;
-          shows = shows_after spares;
+          shows = shows_after spares puts.seen;
           in_use = use_here;
           described = ready.described;
           held = subst (λ (g : FileGroup). IsHeldFor job (state_of snapshots) g) same (staged_for job (group_view (rc_value tracked)) (state_of store.snapshots) (state_of snapshots) stepped there);

@@ -1,5 +1,5 @@
 -- A store shows its state still, over whatever spares the files below its counter.
-use Rattle.std.proofs.Common.{◌≡◌, ◌≤◌, ◌<◌, ◌^◌, ℕ, false, List, refl, sym, ◌∙◌, ap, subst, arith, inl}
+use Rattle.std.proofs.Common.{◌≡◌, ◌≤◌, ◌<◌, ◌^◌, ℕ, Bool, true, false, List, refl, sym, ◌∙◌, ap, subst, arith, inl}
 use Rattle.std.specs.List.{AllZip, AllByRecursion}
 use Rattle.partition.specs.Folders.{part_path_of}
 use Rattle.schema.specs.Keys.{KeyColumn}
@@ -15,7 +15,7 @@ use Rattle.table.specs.Stops.{MayHold, Survives}
 use Rattle.table_state.specs.declared.standing.Core.{Core}
 use Rattle.table_state.specs.OnDisk.{HoldsTable}
 use Rattle.table_state.specs.Spares.{Spares}
-use Rattle.table_state.specs.Stands.{AreStored, IsReady, ShowsJobs, ShowsCursor, AreFilesBelow, ShowsOpen, Shows, numbers_at}
+use Rattle.table_state.specs.Stands.{AreStored, IsReady, ShowsJobs, ShowsCursor, AreFilesBelow, AreTracked, ShowsOpen, Shows, numbers_at}
 use Rattle.table_commits.specs.Writing.{IsSameUse}
 use Rattle.table_state.specs.Promises.{KeepsPast}
 use Rattle.table_commits.proofs.SparedDisks.{kept_on, rooted_on, room_on}
@@ -77,9 +77,9 @@ module _ {D : Type 0} (state : D → DiskState) (store : Core D) (s : State) (sh
       (Needed : List ℕ → Type 0) (at_root : Needed root_path)
       (covers : (f : FileGroup) → IsFileBelow s.table.keys s.next_group f → InUse (state_of store.snapshots) f → Needed (part_path_of s.table.keys f.key f.number))
       (spared : Spares s.table.keys Needed disk (state vault.disk)) (same_use : IsSameUse (state_of store.snapshots) (state_of snapshots))
-      (files : AreFilesBelow more (state_of snapshots)) where
+      (files : AreFilesBelow more (state_of snapshots)) (clean : Bool) (tracked : clean ≡ true → AreTracked (state vault.disk) root.keys (state_of snapshots)) where
     abbrev later : Core D
-    later = record store { vault = vault; snapshots = snapshots; next_group = more }
+    later = record store { vault = vault; snapshots = snapshots; next_group = more; clean = clean }
 
     version_on : AreStored (state vault.disk) s.table.keys s.table.schema more root.groups s.table.groups
     version_on = stored_on s.table.keys s.next_group more grows (InUse (state_of store.snapshots)) Needed covers disk (state vault.disk) spared s.table.schema root.groups s.table.groups in_use shown.version
@@ -124,6 +124,7 @@ module _ {D : Type 0} (state : D → DiskState) (store : Core D) (s : State) (sh
       numbered_cursors = shown.numbered_cursors;
       parted = shown.parted;
       files = files;
+      tracked = tracked;
     }
 
     pub carried : Shows state later (record s { next_group = more })

@@ -1,5 +1,6 @@
 -- What is stored stays stored, over a call that spares it.
-use Rattle.std.proofs.Common.{◌≡◌, ◌≤◌, ◌<◌, ℕ, Bool, true, false, not, ◌&&◌, List, [], ◌∷◌, map, Some, refl, sym, ◌∙◌, ap, subst, arith}
+use Rattle.std.proofs.Common.{◌≡◌, ◌≤◌, ◌<◌, ℕ, zero, suc, Bool, true, false, not, ◌&&◌, List, [], ◌∷◌, map, Some, refl, sym, ◌∙◌, ap, subst, arith}
+use Rattle.std.specs.Prelude.{Contains}
 use Rattle.std.specs.List.{AllZip, AllByRecursion, list_all}
 use Rattle.schema.specs.Shape.{Fields}
 use Rattle.schema.specs.Cutting.{is_among as is_number_among}
@@ -33,6 +34,15 @@ part_below keys count f low = record { key = f.key; number = f.number; can = low
 
 pub stored_below : (disk : DiskState) (keys : List KeyColumn) (schema : Fields) (count : ℕ) (file : FileGroup) (g : Group) → IsStored disk keys schema count file g → IsFileBelow keys count file
 stored_below disk keys schema count file g is = (is.can, is.below)
+
+-- the file of a group that is stored is one
+module _ (disk : DiskState) (keys : List KeyColumn) (schema : Fields) (count : ℕ) where
+  pub stored_there : (files : List FileGroup) (groups : List Group) → AreStored disk keys schema count files groups → (f : FileGroup) → Contains files f → IsFileBelow keys count f
+  stored_there [] [] z f c = absurd (omega (arith, c.1))
+  stored_there [] (g ∷ gs) z f c = absurd z
+  stored_there (x ∷ xs) [] z f c = absurd z
+  stored_there (x ∷ xs) (g ∷ gs) z f (zero, l, is) = subst (λ (y : FileGroup). IsFileBelow keys count y) is (z.0.can, z.0.below)
+  stored_there (x ∷ xs) (g ∷ gs) z f (suc k, l, is) = stored_there xs gs z.1 f (k, omega (arith, l), is)
 
 -- From the one disk to the other, while the counter does not fall. The paths of the files that are held are needed.
 module _ (keys : List KeyColumn) (count more : ℕ) (grows : count ≤ more) (Held : FileGroup → Type 0) (Needed : List ℕ → Type 0)

@@ -30,7 +30,7 @@ use Rattle.table_state.specs.Paths.{IsPartBelow, IsBelow}
 use Rattle.table_state.specs.OnDisk.{HoldsTable}
 use Rattle.table_state.specs.Spares.{Agrees, IsPlace, Spares, HasRoom}
 use Rattle.table_state.specs.Lookups.{jobs_left}
-use Rattle.table_state.specs.Stands.{AreStored, IsReady, ShowsJob, ShowsJobs, ShowsCursor, AreFilesBelow, AreNumbered, TracksJobs, ShowsOpen, Shows, numbers_at, job_numbers, written_in}
+use Rattle.table_state.specs.Stands.{AreStored, IsReady, ShowsJob, ShowsJobs, ShowsCursor, AreFilesBelow, AreNumbered, AreTracked, TracksJobs, ShowsOpen, Shows, numbers_at, job_numbers, written_in}
 use Rattle.table_commits.specs.Committing.{turned, doubted, TurnsInto, IsTurnTo, Turns}
 use Rattle.table_commits.proofs.SparedDisks.{rooted_on, room_on, swap_spares, below_not_next, off_place}
 use Rattle.table_commits.proofs.OpenNumbers.{tracks_left, numbered_left, numbers_shown}
@@ -39,6 +39,7 @@ use Rattle.table_commits.proofs.StoredStays.{part_below, Any, all_any, stored_on
 use Rattle.table_commits.proofs.SoundDisks.{holds_like, sound_for, sound_for_either}
 use Rattle.table_commits.proofs.PartFilesWritten.{failed, cause_at, same_use}
 use Rattle.table_commits.proofs.StateCarriedOver.{past_of, carried, survives_spared, shown, ready}
+use Rattle.table_commits.proofs.TrackedFiles.{tracked_after_swap, tracked_committed}
 
 -- a version whose groups are stored names only files below the count
 names_below : (disk : DiskState) (keys : List KeyColumn) (schema : Fields) (count : ℕ) (files : List FileGroup) (groups : List Group) → AreStored disk keys schema count files groups
@@ -100,7 +101,8 @@ module _ {D : Type 0} (state : D → DiskState) (store : Core D) (s : State) (t 
           is = is_same e other;
           shows = subst (λ (n : ℕ). Shows state (record store { vault = vault }) (record s { next_group = n })) shows.next_group
               (carried state store s shows is_open vault store.snapshots store.next_group (let e = shows.next_group in omega (arith, e)) (let e = shows.next_group in let l = shows.counted in omega (arith, e, l)) (IsBelow keys s.next_group) (inl refl) (λ f low held. inr (part_below keys s.next_group f low)) spares
-              (same_use (state_of store.snapshots) (state_of store.snapshots) refl) (λ f there. let l = here.files f there in let e = shows.next_group in omega (arith, l, e)));
+              (same_use (state_of store.snapshots) (state_of store.snapshots) refl) (λ f there. let l = here.files f there in let e = shows.next_group in omega (arith, l, e))
+              store.clean (λ clean. tracked_after_swap (root_of store.manifest).keys (state_of store.snapshots) (state_of store.snapshots) (λ f there. there) shows.apart turn.root.items disk new swaps.seen (here.tracked clean)));
           survives = survives_spared state store s shows is_open (IsBelow keys s.next_group) (inl refl) (λ f low held. inr (part_below keys s.next_group f low)) new spares s refl;
           past = past_of disk new left;
           cause = ⊎_elim (λ is. cause_at _ Device e (λ h. h) (failed_by e result_is) is) (λ is. absurd (other is));
@@ -200,6 +202,12 @@ module _ {D : Type 0} (state : D → DiskState) (store : Core D) (s : State) (t 
           (λ was. here.files f was)
           (either (names (root_of turn.manifest).groups f) ((state_of store.snapshots).files f) (sym (ap (λ (v : Versions). v.files f) is_after) ∙ there))
 
+      keys_stay : (root_of turn.manifest).keys ≡ (root_of store.manifest).keys
+      keys_stay = is_turn.ready.keys ∙ is_turn.keys ∙ sym shows.keys
+
+      tracked_next : store.clean ≡ true → AreTracked new (root_of turn.manifest).keys versions
+      tracked_next clean = tracked_committed store turn.manifest versions turn.job is_after keys_stay shows.apart turn.root.items disk new swaps.seen (here.tracked clean)
+
       open_next : ShowsOpen new (record store { vault = vault; manifest = turn.manifest; snapshots = snapshots; jobs = left }) next
       open_next = record {
         sure = here.sure;
@@ -217,6 +225,7 @@ module _ {D : Type 0} (state : D → DiskState) (store : Core D) (s : State) (t 
         numbered_cursors = here.numbered_cursors;
         parted = subst (λ (js : List OpenJob). AreDistinct (numbers_of (written_in js))) (sym left_is) (parted_left turn.job store.jobs.items here.parted);
         files = files_next;
+        tracked = tracked_next;
       }
 
       pub turn_done : (x : T) → Turns state store (record store { vault = vault; manifest = turn.manifest; snapshots = snapshots; jobs = left }) s t jobs (Ok x)

@@ -1,7 +1,7 @@
 //! The one way that each commit goes.
 
 ghost use Rattle.std.specs.List.{AllByRecursion};
-ghost use Rattle.std.specs.Prelude.{◌≡◌, ◌<◌, ◌⊎◌, ◌≤◌, ◌↔◌, ◌++◌, ℕ, List, Option, false, Err, IfOk, OnErr, None};
+ghost use Rattle.std.specs.Prelude.{◌≡◌, ◌<◌, ◌⊎◌, ◌≤◌, ◌↔◌, ◌++◌, ℕ, List, Option, false, Err, IfOk, OnOk, OnErr, None};
 ghost use Rattle.bits.specs.Refusals.{RefusedOnly, RefusedMemoryOnly};
 ghost use Rattle.table.specs.InOrder.{in_order};
 ghost use Rattle.manifest.specs.Groups.{Group as Described, root_of, groups_in, handles_view};
@@ -12,6 +12,7 @@ ghost use Rattle.table.specs.State.{State, Job};
 ghost use Rattle.table_state.specs.Promises.{ClosesInDoubt, LeavesTable, TouchesTable, TouchesTableAndJobs};
 ghost use Rattle.table_state.specs.Stands.{Shows};
 ghost use Rattle.table_commits.specs.Causes.{IsCommitRefusal};
+ghost use Rattle.table_commits.specs.Cleaning.{IsTidy};
 ghost use Rattle.table_commits.specs.Committing.{IsPlanned, Turns, with_version};
 
 use crate::cleaning::let_go;
@@ -38,6 +39,9 @@ pub fn commit_to<D: Disk>(
 ) -> R<()>
     ensures turns { (D.state store.old.vault.disk).honest → (s : State) (t : Table) (jobs : List (ℕ × Job)) → Shows D.state store.old s → s.closed ≡ false
         → IsPlanned (D.state store.old.vault.disk) store.old s t jobs job (root_of manifest) → Turns D.state store.old store.new s t jobs result }
+    // No part file is left that nothing needs, unless a cleaning met a fault, or the store keeps what is replaced.
+    ensures tidy { (D.state store.old.vault.disk).honest → (s : State) → Shows D.state store.old s → s.closed ≡ false
+        → (root_of manifest).keys ≡ (root_of store.old.manifest).keys → store.old.keeps ≡ false → OnOk result (IsTidy D.state store.new) }
     ensures limit { result ≡ Err Refusal.Limit → (s : State) (t : Table) (jobs : List (ℕ × Job)) → IsPlanned (D.state store.old.vault.disk) store.old s t jobs job (root_of manifest)
         → IsRootTooHeavy (root_of manifest) }
     ensures which { (s : State) (t : Table) (jobs : List (ℕ × Job)) → IsPlanned (D.state store.old.vault.disk) store.old s t jobs job (root_of manifest)
@@ -70,6 +74,8 @@ pub fn commit_version<D: Disk>(
     ensures turns { (D.state store.old.vault.disk).honest → (s : State) (t : Table) (jobs : List (ℕ × Job)) → Shows D.state store.old s → s.closed ≡ false
         → IsPlanned (D.state store.old.vault.disk) store.old s t jobs job (with_version (root_of store.old.manifest) (groups_in groups) next)
         → Turns D.state store.old store.new s t jobs result }
+    ensures tidy { (D.state store.old.vault.disk).honest → (s : State) → Shows D.state store.old s → s.closed ≡ false → store.old.keeps ≡ false
+        → OnOk result (IsTidy D.state store.new) }
     ensures limit { result ≡ Err Refusal.Limit → (s : State) (t : Table) (jobs : List (ℕ × Job))
         → IsPlanned (D.state store.old.vault.disk) store.old s t jobs job (with_version (root_of store.old.manifest) (groups_in groups) next)
         → IsRootTooHeavy (with_version (root_of store.old.manifest) (groups_in groups) next) }

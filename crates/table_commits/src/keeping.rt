@@ -4,7 +4,7 @@ ghost use Rattle.std.specs.Prelude.{◌≡◌, ◌≤◌, ◌↔◌, true, false
 ghost use Rattle.manifest.specs.Groups.{root_of};
 ghost use Rattle.recovery.specs.Opening.{Cleans, IsClean};
 ghost use Rattle.snapshots.specs.Views.{state_of};
-ghost use Rattle.table_commits.specs.Cleaning.{TracksNoMore, Clears};
+ghost use Rattle.table_commits.specs.Cleaning.{TracksNoMore, Clears, IsTidy};
 ghost use Rattle.table.specs.State.{State};
 ghost use Rattle.table_state.specs.Stands.{Stands, Shows};
 
@@ -32,13 +32,16 @@ pub fn keep_replaced<D: Disk>(store: &mut Core<D>)
 pub fn clean_up<D: Disk>(store: &mut Core<D>, alloc: Global) -> bool
     // The store shows the state that it showed, and a stop at any moment leaves that state's table.
     ensures clears { (D.state store.old.vault.disk).honest → (s : State) → Shows D.state store.old s → s.closed ≡ false → Clears D.state store.old store.new s }
-    ensures same { store.new ≡ record store.old { vault = store.new.vault; snapshots = store.new.snapshots } }
+    // No part file is left that nothing needs, unless a cleaning met a fault. That holds too of a store that keeps what is replaced.
+    ensures tidy { (D.state store.old.vault.disk).honest → (s : State) → Shows D.state store.old s → s.closed ≡ false → IsTidy D.state store.new }
+    ensures same { store.new ≡ record store.old { vault = store.new.vault; snapshots = store.new.snapshots; clean = store.new.clean } }
     ensures closed { store.old.closed ≡ true → (result ≡ false) × (store.new ≡ store.old) }
     // Other files are left alone.
     ensures removes { (D.state store.old.vault.disk).honest → store.old.closed ≡ false → store.old.jobs.items ≡ [] → store.old.cursors.items ≡ []
         → Cleans (root_of store.old.manifest) (D.state store.old.vault.disk) (D.state store.new.vault.disk) }
     // No next root, and no part file in a key folder that the root does not name; and no other version is in use.
     ensures clean { (D.state store.old.vault.disk).honest → IsTrue result → IsClean (root_of store.old.manifest) (D.state store.new.vault.disk) }
+    ensures remembers { IsTrue result → store.new.clean ≡ true }
     ensures idle { IsTrue result → (store.old.jobs.items ≡ []) × (store.old.cursors.items ≡ []) }
     ensures counts { (D.state store.old.vault.disk).failures ≤ (D.state store.new.vault.disk).failures }
     ensures told { IsTrue result → (D.state store.new.vault.disk).failures ≡ (D.state store.old.vault.disk).failures }
@@ -64,12 +67,14 @@ fn is_idle<D: Disk>(store: &Core<D>) -> bool
     store.jobs.as_slice().is_empty() && store.cursors.as_slice().is_empty()
 }
 
-/// Removes the next root and the part files that the root does not name, where nothing is open. Whether no fault was met.
+/// Removes the next root and the part files that the root does not name, where nothing is open. Whether no fault was met, which the
+/// store remembers.
 fn clean_idle<D: Disk>(store: &mut Core<D>, alloc: Global) -> bool
     requires jobs { store.old.jobs.items ≡ [] }
     requires cursors { store.old.cursors.items ≡ [] }
     ensures clears { (D.state store.old.vault.disk).honest → (s : State) → Shows D.state store.old s → s.closed ≡ false → Clears D.state store.old store.new s }
-    ensures same { store.new ≡ record store.old { vault = store.new.vault } }
+    ensures same { store.new ≡ record store.old { vault = store.new.vault; clean = store.new.clean } }
+    ensures remembers { result ≡ store.new.clean }
     ensures removes { (D.state store.old.vault.disk).honest → Cleans (root_of store.old.manifest) (D.state store.old.vault.disk) (D.state store.new.vault.disk) }
     ensures clean { (D.state store.old.vault.disk).honest → IsTrue result → IsClean (root_of store.old.manifest) (D.state store.new.vault.disk) }
     ensures told { IsTrue result → (D.state store.new.vault.disk).failures ≡ (D.state store.old.vault.disk).failures }
@@ -77,7 +82,9 @@ fn clean_idle<D: Disk>(store: &mut Core<D>, alloc: Global) -> bool
     ensures reads { (D.state store.new.vault.disk).reads ≡ (D.state store.old.vault.disk).reads }
     ensures honest { (D.state store.old.vault.disk).honest ↔ (D.state store.new.vault.disk).honest }
 {
-    recovery::clean(alloc, &mut store.vault, &store.manifest)
+    let fine = recovery::clean(alloc, &mut store.vault, &store.manifest);
+    store.clean = fine;
+    fine
 }
 
 /// Tracks the files no more that nothing needs. Where memory runs out it goes on tracking them, which does no harm.

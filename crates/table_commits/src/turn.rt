@@ -1,13 +1,16 @@
 //! The commit of a new version.
 
-ghost use Rattle.std.specs.Prelude.{◌≡◌, ◌⊎◌, ◌↔◌, ℕ, List, false, IsTrue, OnErr, None};
+ghost use Rattle.std.specs.Prelude.{◌≡◌, ◌⊎◌, ◌↔◌, ℕ, List, false, IsTrue, OnOk, OnErr, None};
 ghost use Rattle.bits.specs.Refusals.{RefusedOnly};
 ghost use Rattle.vault.specs.Calls.{CountsOnce};
+ghost use Rattle.manifest.specs.Groups.{root_of};
+ghost use Rattle.snapshots.specs.State.{after, committed};
+ghost use Rattle.snapshots.specs.Views.{state_of, prepared_of};
 ghost use Rattle.table.specs.Table.{Table};
 ghost use Rattle.table.specs.State.{State, Job};
 ghost use Rattle.table_state.specs.Promises.{ClosesInDoubt, LeavesTable, TouchesTable, TouchesTableAndJobs};
 ghost use Rattle.table_state.specs.Lookups.{jobs_left};
-ghost use Rattle.table_state.specs.Stands.{Shows};
+ghost use Rattle.table_state.specs.Stands.{Shows, IsTracked};
 ghost use Rattle.table_commits.specs.Committing.{IsTurnTo, Turns};
 
 use bits::{R, Refusal};
@@ -40,6 +43,10 @@ fn is_in_doubt(refusal: &Refusal) -> bool
 pub(crate) fn take_turn<D: Disk>(store: &mut Core<D>, turn: Turn) -> R<()>
     ensures turns { (D.state store.old.vault.disk).honest → (s : State) (t : Table) (jobs : List (ℕ × Job)) → Shows D.state store.old s → s.closed ≡ false
         → IsTurnTo (D.state store.old.vault.disk) store.old s t jobs turn → Turns D.state store.old store.new s t jobs result }
+    ensures tracks { (D.state store.old.vault.disk).honest → (s : State) → Shows D.state store.old s → s.closed ≡ false
+        → (root_of turn.manifest).keys ≡ (root_of store.old.manifest).keys
+        → prepared_of turn.prepared ≡ after (state_of store.old.snapshots) (committed (root_of turn.manifest).groups turn.job)
+        → OnOk result (IsTracked (D.state store.new.vault.disk) store.new) }
     ensures which { RefusedOnly (λ e. (e ≡ Refusal.Device) ⊎ (e ≡ Refusal.InDoubt)) result }
     ensures doubt { ClosesInDoubt store.new result }
     ensures kept { OnErr result (LeavesTable store.old store.new) }

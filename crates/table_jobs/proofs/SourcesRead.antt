@@ -34,10 +34,9 @@ use Rattle.table_commits.specs.Filling.{HasWritten}
 use Rattle.table_reads.specs.Reading.{OnlyReads}
 use Rattle.table_jobs.specs.Rewritten.{IsSource, AreSources, kept_at, IsHalted}
 use Rattle.table_commits.proofs.OneFileMore.{failed_since}
-use Rattle.table_commits.proofs.AfterCleanings.{still}
+use Rattle.table_commits.proofs.AfterCleanings.{read_still}
 use Rattle.table_commits.proofs.SparedDisks.{spares_on, spares_less, read_spares}
 use Rattle.table_commits.proofs.StoredStays.{part_below, Any, all_any, stored_on, jobs_on, hold_same}
-use Rattle.table_commits.proofs.PartFilesWritten.{same_use}
 
 -- ---- a source
 
@@ -87,7 +86,7 @@ module _ {D : Type 0} (state : D → DiskState) (start mid : Core D) (s : State)
       rises = has.wrote.rises;
       spares = spares_on s.table.keys (IsBelow s.table.keys s.next_group) (state start.vault.disk) (state mid.vault.disk) (state vault.disk) has.wrote.spares
           (spares_less s.table.keys (λ q. Unit {0}) (IsBelow s.table.keys s.next_group) (λ path need. tt) (state mid.vault.disk) (state vault.disk) spared);
-      shows = (still state mid (counted s mid.next_group) has.wrote.shows is_open vault mid.snapshots (λ q. Unit {0}) tt (λ f low held. tt) spared (same_use versions versions refl) (has.wrote.shows.shown is_open).files).shows;
+      shows = (read_still state mid (counted s mid.next_group) has.wrote.shows is_open vault leaves).shows;
       jobs = jobs_on s.table.keys s.table.schema s.next_group s.next_group s.options.group_rows (omega arith) s.had s.had (λ m low e. e) versions versions (λ q. Unit {0}) (λ f low held. tt) (state mid.vault.disk) (state vault.disk) spared
           (hold_same versions.jobs versions.jobs refl) mid.jobs.items s.jobs has.wrote.jobs;
     }

@@ -13,6 +13,7 @@ ghost use Rattle.table.specs.Refusing.{is_failure};
 ghost use Rattle.table.specs.Calls.{commit, abort, done, accepted};
 ghost use Rattle.table.specs.Views.{answered};
 ghost use Rattle.table_state.specs.Stands.{Stands};
+ghost use Rattle.table_commits.specs.Cleaning.{IsTidy, LeavesTidy};
 ghost use Rattle.table_state.specs.Promises.{Acts, ActsFrom, HasCause, StaysClosed, ClosesInDoubt, LeavesTable, TouchesJobs, TouchesTableAndJobs};
 
 use crate::append_work::{waiting_rows, written_with};
@@ -38,6 +39,8 @@ use table_state::{Core, MOST_NUMBERS, OpenJob, Work, end_job, find_job};
 pub fn commit<D: Disk>(store: &mut Core<D>, alloc: Global, job: JobId) -> R<u64>
     ensures acts { Acts D.state store.old store.new (commit job) (answered done result) }
     ensures cause { HasCause D.state store.old store.new (answered done result) }
+    // No part file is left that nothing needs, unless a cleaning met a fault, or the store keeps what is replaced.
+    ensures tidy { LeavesTidy D.state store.old store.new result }
     ensures closed { StaysClosed store.old store.new result }
     ensures doubt { ClosesInDoubt store.new result }
     ensures kept { IfErr result (λ e. e ≢ Refusal.Stale → LeavesTable store.old store.new) }
@@ -73,6 +76,8 @@ fn commit_append<D: Disk>(store: &mut Core<D>, alloc: Global, job: JobId) -> R<u
         → finds_nothing (job_at job store.old.jobs.items) ≡ false → ActsFrom D.state store.old store.new (commit job) (answered done result) s }
     ensures cause { (D.state store.old.vault.disk).honest → (s : State) → Stands D.state store.old s → s.closed ≡ false → fault s (commit job) ≡ None → finds_append (job_at job store.old.jobs.items) ≡ true
         → finds_nothing (job_at job store.old.jobs.items) ≡ false → is_failure (answered done result) ≡ true → HasFailed (D.state store.old.vault.disk) (D.state store.new.vault.disk) }
+    ensures tidy { (D.state store.old.vault.disk).honest → (s : State) → Stands D.state store.old s → s.closed ≡ false → fault s (commit job) ≡ None → finds_append (job_at job store.old.jobs.items) ≡ true
+        → store.old.keeps ≡ false → OnOk result (IsTidy D.state store.new) }
     ensures doubt { ClosesInDoubt store.new result }
     ensures kept { OnErr result (LeavesTable store.old store.new) }
     ensures touches { TouchesTableAndJobs store.old store.new }
@@ -112,8 +117,10 @@ fn check_groups<D: Disk>(store: &Core<D>, alloc: Global, groups: &[Rc<Group>]) -
 pub fn abort<D: Disk>(store: &mut Core<D>, alloc: Global, job: JobId) -> R<()>
     ensures acts { Acts D.state store.old store.new (abort job) (answered (λ _. accepted) result) }
     ensures cause { HasCause D.state store.old store.new (answered (λ _. accepted) result) }
+    // No part file is left that nothing needs, unless a cleaning met a fault, or the store keeps what is replaced.
+    ensures tidy { LeavesTidy D.state store.old store.new result }
     ensures closed { StaysClosed store.old store.new result }
-    ensures touches { TouchesJobs store.old store.new }
+    ensures touches { TouchesJobs (record store.old { clean = store.new.clean }) store.new }
     ensures counts { (D.state store.old.vault.disk).failures ≤ (D.state store.new.vault.disk).failures }
     ensures honest { (D.state store.old.vault.disk).honest ↔ (D.state store.new.vault.disk).honest }
 {

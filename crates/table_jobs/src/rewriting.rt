@@ -1,9 +1,9 @@
 //! Rewrites of groups.
 
-ghost use Rattle.std.specs.Prelude.{◌≡◌, ◌≤◌, ◌↔◌, true, false, None, OnOk};
+ghost use Rattle.std.specs.Prelude.{◌≡◌, ◌≤◌, ◌↔◌, true, false, None, IfOk, OnOk};
 ghost use Rattle.vault.specs.Calls.{HasFailed};
 ghost use Rattle.table_state.specs.Lookups.{job_at};
-ghost use Rattle.table_reads.specs.Stepping.{is_rewrite, finds_rewrite};
+ghost use Rattle.table_reads.specs.Stepping.{is_rewrite, finds_rewrite, LacksSource};
 ghost use Rattle.table.specs.State.{State};
 ghost use Rattle.table.specs.Checks.{fault};
 ghost use Rattle.table.specs.Refusing.{is_failure};
@@ -61,6 +61,7 @@ pub fn begin_rewrite<D: Disk>(store: &mut Core<D>, alloc: Global, numbers: &[u64
 pub fn step_rewrite<D: Disk>(store: &mut Core<D>, alloc: Global, job: JobId) -> R<bool>
     ensures acts { Acts D.state store.old store.new (step_rewrite job) (answered more result) }
     ensures cause { HasCause D.state store.old store.new (answered more result) }
+    ensures absent { (D.state store.old.vault.disk).honest → LacksSource D.state store.old job → IfOk result (λ _. ⊥) }
     ensures closed { StaysClosed store.old store.new result }
     ensures unfailed { OnOk result ((D.state store.new.vault.disk).failures ≡ (D.state store.old.vault.disk).failures) }
     ensures touches { TouchesJobs store.old store.new }
@@ -85,6 +86,7 @@ fn read_source<D: Disk>(store: &mut Core<D>, alloc: Global, job: JobId) -> R<boo
         → ActsFrom D.state store.old store.new (step_rewrite job) (answered more result) s }
     ensures cause { (D.state store.old.vault.disk).honest → (s : State) → Stands D.state store.old s → s.closed ≡ false → fault s (step_rewrite job) ≡ None
         → is_failure (answered more result) ≡ true → HasFailed (D.state store.old.vault.disk) (D.state store.new.vault.disk) }
+    ensures absent { (D.state store.old.vault.disk).honest → LacksSource D.state store.old job → IfOk result (λ _. ⊥) }
     ensures unfailed { OnOk result ((D.state store.new.vault.disk).failures ≡ (D.state store.old.vault.disk).failures) }
     ensures touches { TouchesJobs store.old store.new }
     ensures counts { (D.state store.old.vault.disk).failures ≤ (D.state store.new.vault.disk).failures }

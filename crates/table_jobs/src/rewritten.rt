@@ -19,6 +19,7 @@ ghost use Rattle.table_state.specs.declared.jobs.Rewriting.{Rewriting};
 ghost use Rattle.table_state.specs.Lookups.{job_at};
 ghost use Rattle.table_state.specs.Stands.{Stands};
 ghost use Rattle.table_state.specs.Promises.{ActsFrom, IsSure, ClosesInDoubt, LeavesTable, TouchesTableAndJobs};
+ghost use Rattle.table_commits.specs.Cleaning.{IsTidy};
 ghost use Rattle.table_commits.specs.Filling.{HasWritten};
 ghost use Rattle.table_jobs.specs.Rewritten.{IsRewriteAt, AreSources, AreRuns, IsRunIn, RewritesOne, RewritesAll};
 
@@ -41,6 +42,8 @@ pub(crate) fn commit_rewrite<D: Disk>(store: &mut Core<D>, alloc: Global, job: J
         → ActsFrom D.state store.old store.new (commit job) (answered done result) s }
     ensures cause { (D.state store.old.vault.disk).honest → (s : State) (r : Rewriting) → Stands D.state store.old s → s.closed ≡ false → s.next_group < 2 ^ 63 → IsRewriteAt job store.old.jobs.items r → r.runs.items ≢ []
         → is_failure (answered done result) ≡ true → HasFailed (D.state store.old.vault.disk) (D.state store.new.vault.disk) }
+    ensures tidy { (D.state store.old.vault.disk).honest → (s : State) (r : Rewriting) → Stands D.state store.old s → s.closed ≡ false → s.next_group < 2 ^ 63 → IsRewriteAt job store.old.jobs.items r → r.runs.items ≢ []
+        → store.old.keeps ≡ false → OnOk result (IsTidy D.state store.new) }
     ensures doubt { ClosesInDoubt store.new result }
     ensures kept { IfErr result (λ e. e ≢ Refusal.Stale → LeavesTable store.old store.new) }
     ensures table { OnErr result (store.new.manifest ≡ store.old.manifest) }
@@ -60,6 +63,8 @@ pub(crate) fn commit_rewrite<D: Disk>(store: &mut Core<D>, alloc: Global, job: J
 fn end_stale<D: Disk>(store: &mut Core<D>, alloc: Global, job: JobId) -> R<u64>
     ensures acts { (D.state store.old.vault.disk).honest → (s : State) (r : Rewriting) → Stands D.state store.old s → s.closed ≡ false → IsRewriteAt job store.old.jobs.items r → fault s (commit job) ≡ Some Refusal.Stale
         → ActsFrom D.state store.old store.new (commit job) (answered done result) s }
+    // It always refuses.
+    ensures tidy { OnOk result (IsTidy D.state store.new) }
     ensures cause { is_failure (answered done result) ≡ false }
     ensures sure { IsSure result }
     ensures kept { IfErr result (λ e. e ≢ Refusal.Stale → LeavesTable store.old store.new) }
@@ -81,6 +86,8 @@ fn commit_runs<D: Disk>(store: &mut Core<D>, alloc: Global, job: JobId, runs: &[
         → fault s (commit job) ≡ None → ActsFrom D.state store.old store.new (commit job) (answered done result) s }
     ensures cause { (D.state store.old.vault.disk).honest → (s : State) (r : Rewriting) → Stands D.state store.old s → s.closed ≡ false → IsRewriteAt job store.old.jobs.items r → r.runs.items ≢ [] → sources_view runs.now ≡ sources_view r.runs.items
         → fault s (commit job) ≡ None → is_failure (answered done result) ≡ true → HasFailed (D.state store.old.vault.disk) (D.state store.new.vault.disk) }
+    ensures tidy { (D.state store.old.vault.disk).honest → (s : State) (r : Rewriting) → Stands D.state store.old s → s.closed ≡ false → IsRewriteAt job store.old.jobs.items r → r.runs.items ≢ [] → sources_view runs.now ≡ sources_view r.runs.items
+        → fault s (commit job) ≡ None → store.old.keeps ≡ false → OnOk result (IsTidy D.state store.new) }
     ensures doubt { ClosesInDoubt store.new result }
     ensures kept { OnErr result (LeavesTable store.old store.new) }
     ensures touches { TouchesTableAndJobs store.old store.new }

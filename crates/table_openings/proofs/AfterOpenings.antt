@@ -55,8 +55,9 @@ module _ {D : Type 0} (state : D → DiskState) (old : DiskState) (store : Core 
   abbrev new : DiskState
   new = state store.vault.disk
 
-  pub opened_so : PathsAreApart → RootsMeanOneTable → RowsOfPartsFit → (IsOutOfRange o → ⊥) → IsSound new → IsDescribed new (root_of store.manifest) → may_leave new new.seen → IsOpened state old o store
-  opened_so apart one fit in_range sound_now described seen_may =
+  pub opened_so : PathsAreApart → RootsMeanOneTable → RowsOfPartsFit → (IsOutOfRange o → ⊥) → IsSound new → IsDescribed new (root_of store.manifest) → may_leave new new.seen
+      → (store.clean ≡ true → IsClean (root_of store.manifest) new) → IsOpened state old o store
+  opened_so apart one fit in_range sound_now described seen_may cleaned =
       let here = came old new moments sound clear room new.moment new.seen moments.later (omega arith) seen_may in
       let same : here.0 ≡ described.table = one_table (content new.seen) here.0 described.table here.1.files (root_of store.manifest, described.each new.seen seen_may) in
       let each : (c : Image) → may_leave new c → IsTableOf (content c) (root_of store.manifest) here.0
@@ -67,7 +68,7 @@ module _ {D : Type 0} (state : D → DiskState) (old : DiskState) (store : Core 
         left = here.3;
         held = here.4;
         stands = started.stands state store o is here.0 each described.root_kept.0 described.root_kept.1 described.parts_kept seen_may fit apart one in_range sound_now
-            (room_left old new SameTable moments clear here.0.keys (room here.2 here.0 here.3 here.4.files));
+            (room_left old new SameTable moments clear here.0.keys (room here.2 here.0 here.3 here.4.files)) cleaned;
       }
 
 -- ---- over a store that was made of a vault and a description
@@ -86,9 +87,9 @@ module _ {D : Type 0} (state : D → DiskState) (old : DiskState) (store : Core 
       (subst (λ (m : Manifest). IsDescribed (state vault.disk) (root_of m)) (sym at_manifest) is)
 
   pub found_so : TablesAreOne → (o : WriteOptions) → IsStarted o store → PathsAreApart → RootsMeanOneTable → RowsOfPartsFit → (IsOutOfRange o → ⊥) → IsSound (state vault.disk) → IsDescribed (state vault.disk) (root_of manifest)
-      → may_leave (state store.vault.disk) (state store.vault.disk).seen → IsOpened state old o store
-  found_so one_table o is apart one fit in_range sound_now described seen_may =
-      opened_so state old store moments_at sound room clear_at one_table o is apart one fit in_range (subst (λ (v : Vault D). IsSound (state v.disk)) (sym at_vault) sound_now) (described_at described) seen_may
+      → may_leave (state store.vault.disk) (state store.vault.disk).seen → (store.clean ≡ true → IsClean (root_of store.manifest) (state store.vault.disk)) → IsOpened state old o store
+  found_so one_table o is apart one fit in_range sound_now described seen_may cleaned =
+      opened_so state old store moments_at sound room clear_at one_table o is apart one fit in_range (subst (λ (v : Vault D). IsSound (state v.disk)) (sym at_vault) sound_now) (described_at described) seen_may cleaned
 
 -- ---- whether the cleaning met a fault
 

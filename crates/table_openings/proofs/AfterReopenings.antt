@@ -1,5 +1,5 @@
 -- Where a store stands after it was opened anew, or was to be.
-use Rattle.std.proofs.Common.{◌≡◌, ◌≤◌, ◌⊎◌, ℕ, true, false, List, Result, Ok, Err, refl, sym, ap, subst, arith, inl, inr, ⊎_elim}
+use Rattle.std.proofs.Common.{◌≡◌, ◌≤◌, ◌⊎◌, ℕ, Bool, true, false, List, Result, Ok, Err, refl, sym, ◌∙◌, ap, subst, arith, inl, inr, ⊎_elim}
 use Rattle.std.specs.Prelude.{OnOk, OnErr}
 use Rattle.bits.specs.declared.refusal.Refusal.{Refusal}
 use Rattle.bits.specs.declared.refusal.Refusal.TheVariants.{Device, Memory}
@@ -14,6 +14,7 @@ use Rattle.manifest.specs.Groups.{root_of}
 use Rattle.manifest.specs.Table.{IsTableOf}
 use Rattle.manifest.specs.Laws.{TablesAreOne, RowsOfPartsFit}
 use Rattle.recovery.specs.Sound.{IsSound, SameTable, IsDescribed}
+use Rattle.recovery.specs.Opening.{IsClean}
 use Rattle.table.specs.Table.{Table}
 use Rattle.table.specs.State.{State, opened}
 use Rattle.table.specs.Calls.{reopen, accepted, refused}
@@ -28,6 +29,8 @@ use Rattle.table_state.specs.Promises.{ActsFrom}
 use Rattle.table_state.specs.Starting.{IsStarted}
 use Rattle.table_commits.proofs.StateCarriedOver.{past_of}
 use Rattle.table_commits.proofs.OneCallMore.{reached_on}
+use Rattle.table_commits.specs.Cleaning.{IsTidy}
+use Rattle.table_commits.proofs.NeededFiles.{clean_is_tidy}
 use Rattle.table_openings.proofs.StartedStores as started
 use Rattle.table_openings.proofs.TablesInDoubt.{keys_in_doubt}
 
@@ -117,7 +120,7 @@ module _ {D : Type 0} (state : D → DiskState) (old : Core D) (s : State) (stan
   -- ---- it is done: nothing is open, and the store has one of the two tables
 
   module _ (new : Core D) (is : IsStarted old.options new) (there : new.vault ≡ vault) (described : IsDescribed disk (root_of new.manifest)) (seen_may : may_leave disk disk.seen)
-      (one_table : TablesAreOne) (fit : RowsOfPartsFit) where
+      (one_table : TablesAreOne) (fit : RowsOfPartsFit) (cleaned : new.clean ≡ true → IsClean (root_of new.manifest) disk) where
     abbrev seen_holds : (t : Table) × HoldsTable disk.seen t × MayHold s t
     seen_holds = holds_now disk.seen seen_may
 
@@ -142,7 +145,7 @@ module _ {D : Type 0} (state : D → DiskState) (old : Core D) (s : State) (stan
     stands_now : Stands state (record new { vault = vault }) next
     stands_now = started.stands state (record new { vault = vault }) old.options
         (record { options = is.options; versions = is.versions; jobs = is.jobs; cursors = is.cursors; next_job = is.next_job; next_cursor = is.next_cursor; next_group = is.next_group; closed = is.closed })
-        table each described.root_kept.0 described.root_kept.1 described.parts_kept seen_may fit shown.apart shown.one_root shown.in_range sound room
+        table each described.root_kept.0 described.root_kept.1 described.parts_kept seen_may fit shown.apart shown.one_root shown.in_range sound room cleaned
 
     pub done_so : ActsFrom state old new reopen accepted s
     done_so = subst (λ (v : Vault D). ActsFrom state old (record new { vault = v }) reopen accepted s) (sym there) (record {
@@ -160,9 +163,21 @@ module _ {D : Type 0} (state : D → DiskState) (old : Core D) (s : State) (stan
 
   -- ---- either
 
-  pub anew : (manifest : Manifest) → IsDescribed disk (root_of manifest) → may_leave disk disk.seen → TablesAreOne → RowsOfPartsFit → (result : Result (Unit {0}) Refusal) (new : Core D) → OnOk result (IsStarted old.options new) → new.vault ≡ vault
-      → OnOk result (new.manifest ≡ manifest) → OnErr result (new ≡ record old { vault = vault; closed = true }) → RefusedMemoryOnly result → ActsFrom state old new reopen (answered {T = Unit {0}} (λ _. accepted) result) s
-  anew manifest described seen_may one_table fit (Ok x) new is there same unchanged which =
-      done_so new is there (subst (λ (m : Manifest). IsDescribed disk (root_of m)) (sym same) described) seen_may one_table fit
-  anew manifest described seen_may one_table fit (Err e) new is there same unchanged which =
+  -- the store says that the table is clean only where it is
+  cleaned_so : (manifest : Manifest) (clean : Bool) (new : Core D) → new.manifest ≡ manifest → new.clean ≡ clean → (clean ≡ true → IsClean (root_of manifest) disk) → new.clean ≡ true → IsClean (root_of new.manifest) disk
+  cleaned_so manifest clean new same told is e = subst (λ (m : Manifest). IsClean (root_of m) disk) (sym same) (is (sym told ∙ e))
+
+  pub anew : (manifest : Manifest) (clean : Bool) → (clean ≡ true → IsClean (root_of manifest) disk) → IsDescribed disk (root_of manifest) → may_leave disk disk.seen → TablesAreOne → RowsOfPartsFit → (result : Result (Unit {0}) Refusal) (new : Core D) → OnOk result (IsStarted old.options new) → new.vault ≡ vault
+      → OnOk result (new.manifest ≡ manifest) → OnOk result (new.clean ≡ clean) → OnErr result (new ≡ record old { vault = vault; closed = true }) → RefusedMemoryOnly result → ActsFrom state old new reopen (answered {T = Unit {0}} (λ _. accepted) result) s
+  anew manifest clean cleaned described seen_may one_table fit (Ok x) new is there same told unchanged which =
+      done_so new is there (subst (λ (m : Manifest). IsDescribed disk (root_of m)) (sym same) described) seen_may one_table fit (cleaned_so manifest clean new same told cleaned)
+  anew manifest clean cleaned described seen_may one_table fit (Err e) new is there same told unchanged which =
       subst (λ (st : Core D). ActsFrom state old st reopen (refused e) s) (sym unchanged) (refused_so e (inr (memory_only e which)))
+
+  -- no file is left that nothing needs
+  pub tidy_anew : (manifest : Manifest) (clean : Bool) → (clean ≡ true → IsClean (root_of manifest) disk) → (result : Result (Unit {0}) Refusal) (new : Core D) → OnOk result (IsStarted old.options new) → new.vault ≡ vault
+      → OnOk result (new.manifest ≡ manifest) → OnOk result (new.clean ≡ clean) → ActsFrom state old new reopen (answered {T = Unit {0}} (λ _. accepted) result) s → OnOk result (IsTidy state new)
+  tidy_anew manifest clean cleaned (Ok x) new is there same told acts = λ e.
+      clean_is_tidy state new acts.after acts.stands.shows (sym acts.stands.shows.closed ∙ is.closed)
+      (subst (λ (v : Vault D). IsClean (root_of new.manifest) (state v.disk)) (sym there) (cleaned_so manifest clean new same told cleaned e))
+  tidy_anew manifest clean cleaned (Err e) new is there same told acts = tt

@@ -1,6 +1,7 @@
 -- A new table: its key columns, and the store on it.
-use Rattle.std.proofs.Common.{◌≡◌, ℕ, List, refl, sym, ◌∙◌, ap, subst, arith}
+use Rattle.std.proofs.Common.{◌≡◌, ℕ, false, List, refl, sym, ◌∙◌, ap, subst, arith}
 use Rattle.std.specs.Prelude.{Contains}
+use Rattle.std.proofs.lemmas.Bool.{false≢true}
 use Rattle.bits.specs.declared.refusal.Refusal.{Refusal}
 use Rattle.bits.specs.declared.refusal.Refusal.TheVariants.{Limit, Exists, Device, InDoubt, Memory}
 use Rattle.schema.specs.Shape.{Fields}
@@ -84,19 +85,19 @@ module _ {D : Type 0} (state : D → DiskState) (store : Core D) (o : WriteOptio
   sound : HasRoom keys disk → RootsMeanOneTable → IsSound disk
   sound room one = (sound_for disk 0 (first_root schema keys) first.root.items table ready room one on.rooted on.kept (λ (t : Table). Unit {0}) tt).sound
 
-  pub new_stands : PathsAreApart → RootsMeanOneTable → RowsOfPartsFit → (IsOutOfRange o → ⊥) → HasRoom keys disk → may_leave disk disk.seen → Stands state store (opened o table)
-  new_stands apart one fit in_range room seen_may =
-      started.stands state store o is table each first.root.items on.kept no_parts seen_may fit apart one in_range (sound room one) room
+  pub new_stands : PathsAreApart → RootsMeanOneTable → RowsOfPartsFit → (IsOutOfRange o → ⊥) → HasRoom keys disk → may_leave disk disk.seen → store.clean ≡ false → Stands state store (opened o table)
+  new_stands apart one fit in_range room seen_may unclean =
+      started.stands state store o is table each first.root.items on.kept no_parts seen_may fit apart one in_range (sound room one) room (λ clean. absurd (false≢true (sym unclean ∙ clean)))
 
 -- of a store that was made of a vault and a new table
 pub stands_so : {D : Type 0} (state : D → DiskState) (store : Core D) (o : WriteOptions) (vault : Vault D) (first : First) → store.vault ≡ vault → store.manifest ≡ first.manifest → IsStarted o store
     → (schema : Fields) (keys other : List KeyColumn) → keys ≡ other → IsFirstOn schema keys first (state vault.disk) → PathsAreApart → RootsMeanOneTable → RowsOfPartsFit → (IsOutOfRange o → ⊥) → HasRoom keys (state vault.disk)
-    → may_leave (state store.vault.disk) (state store.vault.disk).seen → Stands state store (opened o (empty_table schema other))
-stands_so {D} state store o vault first at_vault at_manifest is schema keys other same on apart one fit in_range room seen_may =
+    → may_leave (state store.vault.disk) (state store.vault.disk).seen → store.clean ≡ false → Stands state store (opened o (empty_table schema other))
+stands_so {D} state store o vault first at_vault at_manifest is schema keys other same on apart one fit in_range room seen_may unclean =
     subst (λ (ks : List KeyColumn). Stands state store (opened o (empty_table schema ks))) same
     (new_stands state store o is schema keys first
     (subst (λ (v : Vault D). IsFirstOn schema keys first (state v.disk)) (sym at_vault) on)
     (ap (λ (m : Manifest). root_of m) at_manifest ∙ on.is.manifest)
     apart one fit in_range
     (subst (λ (v : Vault D). HasRoom keys (state v.disk)) (sym at_vault) room)
-    seen_may)
+    seen_may unclean)

@@ -8,12 +8,13 @@ use Rattle.disk.specs.State.{Image, State as DiskState, content, may_leave}
 use Rattle.vault.specs.Views.{IsKept, root_path}
 use Rattle.footer.specs.declared.options.WriteOptions.{WriteOptions}
 use Rattle.footer.specs.Writing.{IsOutOfRange}
-use Rattle.schema.specs.Keys.{AreDistinct}
+use Rattle.schema.specs.Keys.{KeyColumn, AreDistinct}
 use Rattle.manifest.specs.Groups.{Group as FileGroup, Root, root_of, numbers_of}
 use Rattle.manifest.specs.Root.{IsDescription}
 use Rattle.manifest.specs.Table.{IsTableOf, path_of_group}
 use Rattle.manifest.specs.Laws.{RootsMeanOneTable, RowsOfPartsFit}
 use Rattle.recovery.specs.Sound.{IsSound}
+use Rattle.recovery.specs.Opening.{IsClean}
 use Rattle.snapshots.specs.State.{State as Versions, File, file_of, is_same, names}
 use Rattle.snapshots.specs.Views.{state_of}
 use Rattle.table.specs.Table.{Table, IsTable}
@@ -24,8 +25,9 @@ use Rattle.table_state.specs.declared.jobs.OpenJob.{OpenJob}
 use Rattle.table_state.specs.declared.jobs.OpenCursor.{OpenCursor}
 use Rattle.table_state.specs.Paths.{PathsAreApart}
 use Rattle.table_state.specs.Spares.{HasRoom}
-use Rattle.table_state.specs.Stands.{ShowsJobs, ShowsCursor, AreFilesBelow, ShowsOpen, Shows, Stands, numbers_at, job_numbers, cursor_numbers, written_in}
+use Rattle.table_state.specs.Stands.{AreStored, ShowsJobs, ShowsCursor, AreFilesBelow, IsTracked, ShowsOpen, Shows, Stands, numbers_at, job_numbers, cursor_numbers, written_in}
 use Rattle.table_state.specs.Starting.{IsStarted}
+use Rattle.table_commits.proofs.TrackedFiles.{clean_names, current_tracked}
 use Rattle.table_openings.proofs.TablesFound as found
 
 -- a version names only files below a number that all its groups are below
@@ -66,15 +68,26 @@ module _ {D : Type 0} (state : D → DiskState) (store : Core D) (o : WriteOptio
   valid : IsTable t
   valid = found.valid disk root t each bytes kept parts_kept seen_may fit
 
-  shows_open : ShowsOpen disk store now
-  shows_open = record {
+  stored_here : AreStored disk t.keys t.schema t.next root.groups t.groups
+  stored_here = found.stored disk root t each bytes kept parts_kept seen_may fit
+
+  -- only what the root names is there, and that is tracked
+  tracked_here : PathsAreApart → (store.clean ≡ true → IsClean root disk) → IsTracked disk store
+  tracked_here apart cleaned clean key number can fits file reads =
+      current_tracked store.snapshots (record { number = number; key = key })
+      (subst (λ (gs : List FileGroup). names gs (record { number = number; key = key }) ≡ true) (sym (ap (λ (v : Versions). v.current) is.versions))
+      (clean_names root disk disk t.schema t.next t.groups apart (let below = described.fits in let e = there.next in omega (arith, below, e))
+      (subst (λ (ks : List KeyColumn). AreStored disk ks t.schema t.next root.groups t.groups) there.keys stored_here) (cleaned clean) key number can fits file reads))
+
+  shows_open : PathsAreApart → (store.clean ≡ true → IsClean root disk) → ShowsOpen disk store now
+  shows_open apart cleaned = record {
     sure = refl;
     root = bytes;
     root_kept = kept;
     means = found.means disk root t each bytes kept parts_kept seen_may fit;
     next = sym there.next;
     current = ap (λ (v : Versions). v.current) is.versions;
-    version = found.stored disk root t each bytes kept parts_kept seen_may fit;
+    version = stored_here;
     jobs = subst (λ (js : List OpenJob). ShowsJobs disk (state_of store.snapshots) now js []) (sym is.jobs) tt;
     cursors = subst (λ (cs : List OpenCursor). AllZip (ShowsCursor disk (state_of store.snapshots).cursors t.keys t.next) cs []) (sym is.cursors) tt;
     tracks_jobs = ap (λ (v : Versions). numbers_at v.jobs) is.versions ∙ ap (λ (js : List OpenJob). reverse (job_numbers js)) (sym is.jobs);
@@ -83,9 +96,10 @@ module _ {D : Type 0} (state : D → DiskState) (store : Core D) (o : WriteOptio
     numbered_cursors = record { below = tt; distinct = tt };
     parted = subst (λ (js : List OpenJob). AreDistinct (numbers_of (written_in js))) (sym is.jobs) tt;
     files = files_below;
+    tracked = tracked_here apart cleaned;
   }
 
-  module _ (apart : PathsAreApart) (one : RootsMeanOneTable) (in_range : IsOutOfRange o → ⊥) (sound : IsSound disk) (room : HasRoom t.keys disk) where
+  module _ (apart : PathsAreApart) (one : RootsMeanOneTable) (in_range : IsOutOfRange o → ⊥) (sound : IsSound disk) (room : HasRoom t.keys disk) (cleaned : store.clean ≡ true → IsClean root disk) where
     pub shows : Shows state store now
     shows = record {
       valid = valid;
@@ -102,7 +116,7 @@ module _ {D : Type 0} (state : D → DiskState) (store : Core D) (o : WriteOptio
       closed = is.closed;
       room = room;
       sound = record { tables = λ c may. record { table = t; held = record { files = (root, each c may); room = λ path place. room path place c may }; allowed = inl refl }; sound = sound };
-      shown = λ is_open. shows_open;
+      shown = λ is_open. shows_open apart cleaned;
     }
 
     pub stands : Stands state store now

@@ -14,6 +14,7 @@ ghost use Rattle.table.specs.State.{opened};
 ghost use Rattle.table_state.specs.Promises.{WasNextKept};
 ghost use Rattle.table_state.specs.Spares.{HasRoom};
 ghost use Rattle.table_state.specs.Stands.{Stands};
+ghost use Rattle.table_commits.specs.Cleaning.{IsTidy};
 ghost use Rattle.table_openings.specs.Opening.{disk_of, AreNamedKeys, HasNoRoot, HasRoomForAll, LeavesNoneOr, LeavesTables, IsNotCreated, IsCreatable, IsOpened, IsNotOpened, LeavesAllOrCleans};
 
 use crate::creating::{First, put_new};
@@ -106,6 +107,8 @@ pub fn open<D: Disk>(alloc: Global, disk: D, options: WriteOptions) -> Result<Co
     // Files other than part files that the root does not name, and the next root, are left alone.
     ensures removes { (D.state disk).honest → IfOk result (λ store. Cleans (root_of store.manifest) (D.state disk) (D.state store.vault.disk)) }
     ensures clean { (D.state disk).honest → IfOk result (λ store. store.clean ≡ true → IsClean (root_of store.manifest) (D.state store.vault.disk)) }
+    // No part file is left that nothing needs, unless the cleaning met a fault.
+    ensures tidy { (D.state disk).honest → IsSound (D.state disk) → HasRoomForAll (D.state disk) → IfOk result (λ store. IsTidy D.state store) }
     ensures reads { (D.state (disk_of result)).reads ≤ (D.state disk).reads + 1 }
     ensures counts { (D.state disk).failures ≤ (D.state (disk_of result)).failures }
     ensures honest { (D.state disk).honest ↔ (D.state (disk_of result)).honest }

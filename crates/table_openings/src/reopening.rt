@@ -10,9 +10,12 @@ ghost use Rattle.manifest.specs.Root.{RootMeans};
 ghost use Rattle.recovery.specs.Sound.{IsSound, SameTable, IsDescribed};
 ghost use Rattle.recovery.specs.Opening.{Cleans, IsClean};
 ghost use Rattle.table.specs.Calls.{reopen, accepted};
+ghost use Rattle.table.specs.State.{State};
 ghost use Rattle.table.specs.Views.{answered};
 ghost use Rattle.table_openings.specs.Opening.{LeavesAllOrCleans};
 ghost use Rattle.table_state.specs.Promises.{Acts, HasCause};
+ghost use Rattle.table_state.specs.Stands.{Stands};
+ghost use Rattle.table_commits.specs.Cleaning.{IsTidy};
 
 use bits::{R, Refusal};
 use disk::Disk;
@@ -37,6 +40,8 @@ pub fn reopen<D: Disk>(store: &mut Core<D>, alloc: Global) -> R<()>
     // Files other than part files that the root does not name, and the next root, are left alone.
     ensures removes { (D.state store.old.vault.disk).honest → OnOk result (Cleans (root_of store.new.manifest) (D.state store.old.vault.disk) (D.state store.new.vault.disk)) }
     ensures clean { (D.state store.old.vault.disk).honest → OnOk result (store.new.clean ≡ true → IsClean (root_of store.new.manifest) (D.state store.new.vault.disk)) }
+    // No part file is left that nothing needs, unless the cleaning met a fault or was left out.
+    ensures tidy { (D.state store.old.vault.disk).honest → (s : State) → Stands D.state store.old s → OnOk result (IsTidy D.state store.new) }
     ensures keeps { store.new.keeps ≡ store.old.keeps }
     // A store that keeps what is replaced changes no file.
     ensures kept { store.old.keeps ≡ true → (D.state store.old.vault.disk).honest → LeavesAll (D.state store.old.vault.disk) (D.state store.new.vault.disk) }

@@ -1,18 +1,20 @@
 -- Counting the rows that satisfy, group by group.
-use Rattle.std.proofs.Common.{◌≡◌, ◌<◌, ◌+◌, ℕ, zero, suc, Bool, true, false, not, List, [], ◌∷◌, ◌++◌, map, filter, drop, length, get_or, add-one, Option, None, Result, Ok, Err, refl, sym, ◌∙◌, ap, subst, arith}
+use Rattle.std.proofs.Common.{◌≡◌, ◌<◌, ◌+◌, ℕ, zero, suc, Bool, true, false, not, ◌&&◌, List, [], ◌∷◌, ◌++◌, map, filter, drop, length, get_or, add-one, Option, Some, None, inl, inr, Result, Ok, Err, refl, sym, ◌∙◌, ap, subst, arith}
 use Rattle.std.specs.Prelude.{if◌then◌else◌}
 use Rattle.std.specs.List.{AllByRecursion}
 use Rattle.std.proofs.lemmas.List.{length-map, length-append, append-nil}
 use Rattle.std.specs.Rc.{rc_value}
 use Rattle.std.specs.declared.rc.Rc.{Rc}
 use Rattle.std.specs.declared.alloc.Global.{Global}
+use Rattle.lists.proofs.Lists.{all_weaker, all_append}
 use Rattle.manifest.specs.declared.block.Block.{Block}
 use Rattle.bits.specs.declared.refusal.Refusal.{Refusal}
 use Rattle.bits.specs.declared.refusal.Refusal.TheVariants.{Memory, Device}
 use Rattle.bits.specs.Refusals.{HasCause}
 use Rattle.schema.specs.Shape.{Fields}
-use Rattle.schema.specs.Stripe.{leaves_of}
-use Rattle.schema.specs.Keys.{KeyColumn, AreKeys, without_keys}
+use Rattle.schema.specs.Stripe.{Leaf, leaves_of}
+use Rattle.schema.proofs.LeafPlaces.{one_if}
+use Rattle.schema.specs.Keys.{KeyColumn, AreKeys, places_of, without_keys}
 use Rattle.disk.specs.State.{State as DiskState}
 use Rattle.vault.specs.declared.vault.Vault.{Vault}
 use Rattle.vault.specs.Calls.{LeavesAll}
@@ -21,6 +23,8 @@ use Rattle.filter.specs.Terms.{tests_of}
 use Rattle.filter.specs.Deciding.{satisfies as all_satisfied}
 use Rattle.manifest.specs.Groups.{Group as FileGroup, Root, root_of, handles_view, groups_of_blocks}
 use Rattle.manifest.specs.Records.{IsGroup}
+use Rattle.scan.specs.Absent.{MayLack, NeedsNoFile}
+use Rattle.scan.specs.Cost.{place_of, is_stored, is_read, count_read}
 use Rattle.scan.specs.Faults.{IsDevice}
 use Rattle.scan.specs.Selected.{Holds, AreSelected, cut_to}
 use Rattle.table.specs.Table.{Row, Group, rows}
@@ -36,8 +40,9 @@ use Rattle.table.proofs.Steady.{stays}
 use Rattle.table_state.specs.declared.standing.Core.{Core}
 use Rattle.table_state.specs.Stands.{IsStored, AreStored, ShowsOpen, Stands}
 use Rattle.table_reads.specs.Reading.{OnlyReads, IsReading}
-use Rattle.table_reads.specs.Counting.{AreHeld, IsHeld, matching}
+use Rattle.table_reads.specs.Counting.{AreHeld, IsHeld, AreSpared, CanFilter, LacksIn, matching}
 use Rattle.table_state.specs.Promises.{ActsFrom}
+use Rattle.table_reads.proofs.AbsentFiles.{lacks_still}
 use Rattle.table_reads.proofs.ReadsOfPassedGroups.{reading_here, reading_on, reading_poor}
 use Rattle.table_reads.proofs.FetchesGoOn.{stored_left, stays_put}
 use Rattle.table_reads.proofs.CountedRows.{fault_is}
@@ -111,16 +116,47 @@ module _ (disk : DiskState) (root : Root) (n : ℕ) where
   parts_of (f ∷ fs) es (g ∷ gs) z d = one_more f g fs es gs z.0 d.0 (parts_of fs es gs z.1 d.1)
   parts_of (f ∷ fs) es [] z d = absurd z
 
+-- ---- where part files are absent
+
+-- what needs no part file after something was read needed none before
+spared_before : (old mid : DiskState) → LeavesAll old mid → (tests : List (List Test)) (root : Root) (fs : List FileGroup) → AreSpared mid tests root [] fs → AreSpared old tests root [] fs
+spared_before old mid leaves tests root fs spared =
+    all_weaker (λ f. LacksIn mid root f → NeedsNoFile tests root.keys root.schema f []) (λ f. LacksIn old root f → NeedsNoFile tests root.keys root.schema f [])
+    (λ f needs lacks. needs (lacks_still old mid leaves root.keys root.schema f lacks)) fs spared
+
+-- nothing is read without a filter and without columns
+none_counted : (keys : List ℕ) (width n : ℕ) (ls : List Leaf) → count_read [] keys width [] n ls ≡ 0
+none_counted keys width n [] = refl
+none_counted keys width n (l ∷ ls) =
+    let rest = none_counted keys width (suc n) ls in
+    let here : one_if (is_read [] keys width [] n l) ≡ 0 = by (is_stored keys width (place_of l.steps)) in
+    omega (arith, here, rest)
+  where
+    by : (b : Bool) → one_if (b && false) ≡ 0
+    by true = refl
+    by false = refl
+
+pub spared_all : (disk : DiskState) (root : Root) (fs : List FileGroup) → AreSpared disk [] root [] fs
+spared_all disk root [] = tt
+spared_all disk root (f ∷ fs) = ((λ lacks. inr (none_counted (places_of root.keys) f.width 0 (leaves_of root.schema))), spared_all disk root fs)
+
+-- what was read of one group
+pub read_spared : {T : Type 0} (tests : List (List Test)) (keys : List KeyColumn) (fs : Fields) (f : FileGroup) (r : Option T) → MayLack tests keys fs f [] r → NeedsNoFile tests keys fs f []
+read_spared tests keys fs f None h = inl h
+read_spared tests keys fs f (Some x) h = inr h
+
 -- ---- so far
 
 -- From the one disk to the other it was only read: so many rows satisfy, besides those of the files that are left.
 pub record Tally (tests : List (List Test)) (root : Root) (old now : DiskState) (all left : List FileGroup) (found : ℕ) : Type 0 where
   pub read : IsReading old now
+  -- no part file is needed of those that were counted
+  pub spared : old.honest → CanFilter tests root → AreSpared old tests root [] left → AreSpared old tests root [] all
   pub rest : old.honest → (held : List Group) → AreHeld old tests root all held → (others : List Group) × AreHeld now tests root left others × (found + matching tests others ≡ matching tests held)
 
 module _ (tests : List (List Test)) (root : Root) (old : DiskState) (all : List FileGroup) where
   pub tally_here : Tally tests root old old all all 0
-  tally_here = record { read = reading_here old; rest = λ honest held h. (held, h, omega arith) }
+  tally_here = record { read = reading_here old; spared = λ honest can left. left; rest = λ honest held h. (held, h, omega arith) }
 
   module _ (mid : DiskState) (left : List FileGroup) (found : ℕ) (so_far : Tally tests root old mid all left found) where
     module _ (fs es : List FileGroup) (are : left ≡ fs ++ es) where
@@ -140,10 +176,18 @@ module _ (tests : List (List Test)) (root : Root) (old : DiskState) (all : List 
             ap (λ (n : ℕ). found + n) (sym (matching_joined tests p.here p.left)) ∙ ap (λ (gs : List Group). found + matching tests gs) (sym p.split) ∙ now.2,
           )
 
+      spares_all : (mid.honest → CanFilter tests root → AreSpared mid tests root [] fs) → old.honest → CanFilter tests root → AreSpared old tests root [] es → AreSpared old tests root [] all
+      spares_all spares honest can rest =
+          so_far.spared honest can
+          (subst (AreSpared old tests root []) (sym are)
+          (all_append (λ f. LacksIn old root f → NeedsNoFile tests root.keys root.schema f []) fs es (spared_before old mid (so_far.read.unchanged honest) tests root fs (spares (so_far.read.honest.0 honest) can)) rest))
+
       -- these files are counted
-      pub tally_on : {T : Type 0} (new : DiskState) (here sum : ℕ) (x : T) → OnlyReads mid new (Ok x) → (mid.honest → (g : List Group) → AreHeld mid tests root fs g → here ≡ matching tests g) → sum ≡ found + here → Tally tests root old new all es sum
-      tally_on {T} new here sum x effect counts is = record {
+      pub tally_on : {T : Type 0} (new : DiskState) (here sum : ℕ) (x : T) → OnlyReads mid new (Ok x) → (mid.honest → (g : List Group) → AreHeld mid tests root fs g → here ≡ matching tests g)
+          → (mid.honest → CanFilter tests root → AreSpared mid tests root [] fs) → sum ≡ found + here → Tally tests root old new all es sum
+      tally_on {T} new here sum x effect counts spares is = record {
         read = reading_on {T = T} old mid new x so_far.read effect;
+        spared = spares_all spares;
         rest = λ honest held h.
             let parts = split_so honest held h in
             let n = counts (so_far.read.honest.0 honest) parts.0 parts.2 in
@@ -164,6 +208,9 @@ module _ (tests : List (List Test)) (root : Root) (old : DiskState) (all : List 
     tally_done is_none honest held h =
         let now = so_far.rest honest held h in
         nothing_more now.1.count held now.0 (subst (λ (xs : List FileGroup). AreStored mid root.keys root.schema now.1.count xs now.0) is_none now.1.stored) now.2
+
+    pub spared_done : left ≡ [] → old.honest → CanFilter tests root → AreSpared old tests root [] all
+    spared_done is_none honest can = so_far.spared honest can (subst (AreSpared old tests root []) (sym is_none) tt)
 
     -- out of memory so far
     pub tally_poor : (T : Type 0) → OnlyReads {T = T} old mid (Err Memory)

@@ -16,7 +16,7 @@ use Rattle.disk.specs.State.{State as DiskState}
 use Rattle.vault.specs.declared.vault.Vault.{Vault}
 use Rattle.vault.specs.Views.{Same}
 use Rattle.vault.specs.Calls.{LeavesAll}
-use Rattle.vault.proofs.Moments.{widens, kept_on}
+use Rattle.vault.proofs.Moments.{kept_on}
 use Rattle.manifest.specs.Groups.{Group as FileGroup, root_of}
 use Rattle.scan.specs.Faults.{IsDevice}
 use Rattle.snapshots.specs.Views.{state_of}
@@ -31,24 +31,18 @@ use Rattle.table.proofs.Steady.{stays}
 use Rattle.table_state.specs.declared.standing.Core.{Core}
 use Rattle.table_state.specs.declared.jobs.OpenCursor.{OpenCursor}
 use Rattle.table_state.specs.Lookups.{cursor_at}
-use Rattle.table_state.specs.Spares.{Spares, Agrees}
 use Rattle.table_state.specs.Stands.{AreStored, AreNumbered, ShowsCursor, ShowsOpen, Stands, numbers_at, cursor_numbers}
 use Rattle.table_commits.specs.Cleaning.{Clears}
 use Rattle.table_reads.specs.Passing.{Comes, batches_with, batches_from, moved, moved_at, GoesTo, Went, FetchReads}
 use Rattle.table_reads.proofs.ReadsOfPassedGroups.{goes_nowhere}
 use Rattle.snapshots.specs.State.{open_at as versions_at}
 use Rattle.table_state.specs.Promises.{ActsFrom}
-use Rattle.table_commits.proofs.AfterCleanings.{still}
+use Rattle.table_commits.proofs.AfterCleanings.{read_still}
 use Rattle.table_reads.proofs.CursorsGoOn.{no_rows}
 use Rattle.table_reads.proofs.FetchesWithoutCursor.{cursor_found, changed_none, fault_is, sure, here as fetching_here}
-use Rattle.table_commits.proofs.PartFilesWritten.{same_use}
 use Rattle.table_commits.proofs.OtherJobsAndCursors.{IsOpenSo, open_here, shows_open}
 use Rattle.table_commits.proofs.OneCallMore.{reached_on}
 use Rattle.table_commits.proofs.DoubtCloses.{no_doubt}
-
--- what only reads spares all
-spares_all : (keys : List KeyColumn) (old new : DiskState) → LeavesAll old new → Spares keys (λ q. Unit {0}) old new
-spares_all keys old new l = record { moments = widens Same (Agrees (λ q. Unit {0})) old new (λ u v h q n. h q) l.moments; rooted = l.rooted; clear = λ q place way. l.clear q way }
 
 module _ {D : Type 0} (state : D → DiskState) (store : Core D) (s : State) (stands : Stands state store s) (is_open : s.closed ≡ false) (vault : Vault D) (leaves : LeavesAll (state store.vault.disk) (state vault.disk)) where
   abbrev read_store : Core D
@@ -59,7 +53,7 @@ module _ {D : Type 0} (state : D → DiskState) (store : Core D) (s : State) (st
 
   -- the store stands where it stood
   pub still_so : Clears state store read_store s
-  still_so = still state store s stands.shows is_open vault store.snapshots (λ q. Unit {0}) tt (λ f low held. tt) (spares_all s.table.keys (state store.vault.disk) (state vault.disk) leaves) (same_use (state_of store.snapshots) (state_of store.snapshots) refl) here.files
+  still_so = read_still state store s stands.shows is_open vault leaves
 
   -- so it does after a refusal
   pub stays_put : (call : Call) (answer : Answer) → Happens s call answer s → ActsFrom state store read_store call answer s
@@ -274,7 +268,7 @@ module _ {D : Type 0} (state : D → DiskState) (store : Core D) (n : ℕ) (is_o
       survives = record { later = still_here.survives.later; each = still_here.survives.each; ended = still_here.survives.ended };
       stands = record {
         reached = reached_on s stands.reached (fetch n) answer after happens_so;
-        shows = shows_open state (record store { vault = vault }) s still_here.shows open_here_so store.snapshots store.jobs cursors store.next_job store.next_cursor s.next_job s.next_cursor s.jobs (changed_at n next s.cursors) refl
+        shows = shows_open state (record store { vault = vault }) s still_here.shows open_here_so store.snapshots store.jobs cursors store.next_job store.next_cursor s.next_job s.next_cursor s.jobs (changed_at n next s.cursors) refl refl
             stands.shows.next_job stands.shows.next_cursor open_then;
       };
       past = still_here.past;

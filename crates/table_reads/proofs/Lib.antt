@@ -12,6 +12,7 @@ mod CutColumns
 pub mod ReadsOfPassedGroups
 pub mod GroupsAtPlaces
 mod CursorsGoOn
+pub mod AbsentFiles
 mod MovedCursors
 pub mod FetchesGoOn
 pub mod CountedRows

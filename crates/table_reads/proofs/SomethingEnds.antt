@@ -142,7 +142,7 @@ module _ {D : Type 0} (state : D → DiskState) (store : Core D) (s : State) (st
 
     pub job_ended : Shows state (record store { snapshots = snapshots; jobs = jobs }) without_job
     job_ended = shows_open state store s stands.shows is_open snapshots jobs store.cursors store.next_job store.next_cursor s.next_job s.next_cursor (ended_at n s.jobs) s.cursors
-        (ap (λ (v : Versions). v.current) steps) stands.shows.next_job stands.shows.next_cursor
+        (ap (λ (v : Versions). v.current) steps) (ap (λ (v : Versions). v.files) steps) stands.shows.next_job stands.shows.next_cursor
         (subst (λ (js : List OpenJob). IsOpenSo disk (state_of snapshots) without_job js store.cursors.items) (sym left)
         (subst (λ (v : Versions). IsOpenSo disk v without_job (jobs_left (Some n) store.jobs.items) store.cursors.items) (sym steps) left_so))
 
@@ -177,6 +177,6 @@ module _ {D : Type 0} (state : D → DiskState) (store : Core D) (s : State) (st
 
     pub cursor_ended : Shows state (record store { snapshots = snapshots; cursors = cursors }) without_cursor
     cursor_ended = shows_open state store s stands.shows is_open snapshots store.jobs cursors store.next_job store.next_cursor s.next_job s.next_cursor s.jobs (ended_at n s.cursors)
-        (ap (λ (v : Versions). v.current) steps) stands.shows.next_job stands.shows.next_cursor
+        (ap (λ (v : Versions). v.current) steps) (ap (λ (v : Versions). v.files) steps) stands.shows.next_job stands.shows.next_cursor
         (subst (λ (cs : List OpenCursor). IsOpenSo disk (state_of snapshots) without_cursor store.jobs.items cs) (sym left)
         (subst (λ (v : Versions). IsOpenSo disk v without_cursor store.jobs.items (cursors_left n store.cursors.items)) (sym steps) closed_so))

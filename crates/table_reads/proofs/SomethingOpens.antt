@@ -130,7 +130,7 @@ module _ {D : Type 0} (state : D → DiskState) (store : Core D) (s : State) (sh
 
     pub job_begun : Shows state (record store { snapshots = snapshots; jobs = jobs; next_job = store.next_job + 1 }) (with_job s j)
     job_begun = shows_open state store s shows is_open snapshots jobs store.cursors (store.next_job + 1) store.next_cursor (s.next_job + 1) s.next_cursor (s.jobs ++ (s.next_job, j) ∷ []) s.cursors
-        (ap (λ (v : Versions). v.current) steps) (ap (λ (n : ℕ). n + 1) shows.next_job) shows.next_cursor
+        (ap (λ (v : Versions). v.current) steps) (ap (λ (v : Versions). v.files) steps) (ap (λ (n : ℕ). n + 1) shows.next_job) shows.next_cursor
         (subst (λ (js : List OpenJob). IsOpenSo disk (state_of snapshots) (with_job s j) js store.cursors.items) (sym pushed)
         (subst (λ (v : Versions). IsOpenSo disk v (with_job s j) (store.jobs.items ++ x ∷ []) store.cursors.items) (sym steps) begun_so))
 
@@ -186,6 +186,6 @@ module _ {D : Type 0} (state : D → DiskState) (store : Core D) (s : State) (sh
 
     pub cursor_opened : Shows state (record store { snapshots = snapshots; cursors = cursors; next_cursor = store.next_cursor + 1 }) (with_cursor s bs)
     cursor_opened = shows_open state store s shows is_open snapshots store.jobs cursors store.next_job (store.next_cursor + 1) s.next_job (s.next_cursor + 1) s.jobs (s.cursors ++ c ∷ [])
-        (ap (λ (v : Versions). v.current) steps) shows.next_job (ap (λ (n : ℕ). n + 1) shows.next_cursor)
+        (ap (λ (v : Versions). v.current) steps) (ap (λ (v : Versions). v.files) steps) shows.next_job (ap (λ (n : ℕ). n + 1) shows.next_cursor)
         (subst (λ (cs : List OpenCursor). IsOpenSo disk (state_of snapshots) (with_cursor s bs) store.jobs.items cs) (sym pushed)
         (subst (λ (v : Versions). IsOpenSo disk v (with_cursor s bs) store.jobs.items (store.cursors.items ++ x ∷ [])) (sym steps) opened_so))

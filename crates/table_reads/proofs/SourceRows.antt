@@ -2,19 +2,22 @@
 use Rattle.std.proofs.Common.{◌≡◌, ℕ, List, [], map, Option, Some, None, sym, ◌∙◌, ap, subst}
 use Rattle.schema.specs.Fits.{RowsFit}
 use Rattle.schema.specs.Shape.{Fields}
-use Rattle.schema.specs.Keys.{KeyColumn, places_of, row_without_keys}
+use Rattle.schema.specs.Keys.{KeyColumn, AreKeys, places_of, row_without_keys}
+use Rattle.schema.specs.Law.{IsSchema}
 use Rattle.disk.specs.State.{State as DiskState}
 use Rattle.filter.specs.Test.{Test}
 use Rattle.filter.specs.Deciding.{satisfies as all_satisfied}
 use Rattle.manifest.specs.Groups.{Group as FileGroup, Root}
 use Rattle.scan.specs.declared.group_rows.GroupRows.{GroupRows}
+use Rattle.scan.specs.Absent.{Lacks, MayLack}
 use Rattle.scan.specs.Left.{AreReadFor, rows_held}
 use Rattle.scan.specs.Selected.{AreSelected, cut_to}
+use Rattle.scan.proofs.SomeChunk.{some_chunk}
 use Rattle.table.specs.Table.{Row, Group}
 use Rattle.table.proofs.Deciding.{tests_decide}
 use Rattle.table_reads.specs.Counting.{IsHeld}
 use Rattle.table_commits.specs.Showing.{places_besides, AreShown}
-use Rattle.table_reads.proofs.StoredColumns.{cut_each}
+use Rattle.table_reads.proofs.StoredColumns.{cut_each, stored_wanted}
 use Rattle.table_reads.proofs.WholeRows.{all_satisfy, stored_fit}
 
 -- with no filter and the columns of the files, all rows are selected, without their keys
@@ -31,3 +34,10 @@ shown_so disk root f held tests places read none all h are = by read (subst (λ 
     by : (r : Option GroupRows) → AreReadFor [] (places_besides (places_of root.keys) 0 root.schema) held.rows r → AreShown (map (row_without_keys root.keys) held.rows) r
     by None is = sym (selected_stored root.keys root.schema held.rows [] fit is)
     by (Some g) is = subst (rows_held g) (selected_stored root.keys root.schema held.rows is.0 fit is.1) is.2
+
+-- where the part file is absent: each column that the files have is wanted, and there is no filter, so that some chunk is read
+pub shown_never : (disk : DiskState) (root : Root) (f : FileGroup) (tests : List (List Test)) (read : Option GroupRows) → tests ≡ [] → IsSchema root.schema → AreKeys root.keys root.schema → Lacks disk root.keys root.schema f
+    → MayLack tests root.keys root.schema f (places_besides (places_of root.keys) 0 root.schema) read → ⊥
+shown_never disk root f tests None none schema keyed lacks may = may.filtered none
+shown_never disk root f tests (Some g) none schema keyed lacks may =
+    some_chunk tests root.keys root.schema f (places_besides (places_of root.keys) 0 root.schema) schema keyed lacks.is (stored_wanted (places_of root.keys) root.schema) may

@@ -45,6 +45,17 @@ each_place keys i (suc k) (field f fs) low =
     there true r = r
     there false r = ap (λ (c : Bool). not (c || is_among (places_besides keys (suc i) fs) (suc i + k))) (other i (suc i + k) (omega arith)) ∙ r
 
+-- each place of no key column is one of them
+pub stored_wanted : (keys : List ℕ) (fs : Fields) (p : ℕ) → p < count fs → is_among keys p ≡ false → is_among (places_besides keys 0 fs) p ≡ true
+stored_wanted keys fs p low kept =
+    let e : 0 + p ≡ p = omega arith in
+    let here : not (is_among (places_besides keys 0 fs) p) ≡ is_among keys p = subst (λ (n : ℕ). not (is_among (places_besides keys 0 fs) n) ≡ is_among keys n) e (each_place keys 0 p fs low) in
+    by (is_among (places_besides keys 0 fs) p) (here ∙ kept)
+  where
+    by : (b : Bool) → not b ≡ false → b ≡ true
+    by true e = refl
+    by false e = sym e
+
 same_besides : (f g : ℕ → Bool) (i : ℕ) (row : Row) → ((k : ℕ) → k < width row → f (i + k) ≡ g (i + k)) → values_besides f i row ≡ values_besides g i row
 same_besides f g i no_values same = refl
 same_besides f g i (item v vs) same =

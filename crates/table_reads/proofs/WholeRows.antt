@@ -7,6 +7,7 @@ use Rattle.schema.specs.Shape.{Field, Fields, no_fields, field, count}
 use Rattle.schema.specs.Fits.{fits_each, RowsFit}
 use Rattle.schema.specs.Fronts.{padded, with_field, with_null}
 use Rattle.schema.specs.Cutting.{is_among}
+use Rattle.schema.specs.Law.{IsSchema}
 use Rattle.schema.specs.Keys.{KeyColumn, AreKeys, width, without_keys, values_besides}
 use Rattle.schema.proofs.Grown.{padded_grows}
 use Rattle.schema.proofs.Padding.{whole_rows_are_padded}
@@ -21,7 +22,9 @@ use Rattle.filter.specs.Deciding.{satisfies as all_satisfied}
 use Rattle.manifest.specs.Groups.{Group as FileGroup, Root}
 use Rattle.manifest.specs.Records.{IsGroup}
 use Rattle.manifest.proofs.PartRows.{rows_of_parts_fit}
+use Rattle.scan.specs.Absent.{Lacks, MayLackRows}
 use Rattle.scan.specs.Selected.{AreSelected, cut_to}
+use Rattle.scan.proofs.SomeChunk.{some_chunk}
 use Rattle.table.specs.Table.{Row, Group}
 use Rattle.table.specs.Cursors.{wanted_places}
 use Rattle.table.proofs.Deciding.{tests_decide}
@@ -110,3 +113,13 @@ pub whole_so : (disk : DiskState) (root : Root) (f : FileGroup) (held : Group) (
 whole_so disk root f held tests places out none all h are =
     selected_all root.schema held.rows out (stored_fit disk root.keys root.schema h.count f held h.keyed h.described.0 h.stored.0)
     (subst (λ (ps : List ℕ). AreSelected [] ps held.rows out) all (subst (λ (ts : List (List Test)). AreSelected ts places held.rows out) none are))
+
+-- ---- where the part file is absent
+
+-- each column is wanted, and there is no filter: some chunk is read
+pub whole_never : (disk : DiskState) (root : Root) (f : FileGroup) (tests : List (List Test)) (rows : List Row) → tests ≡ [] → IsSchema root.schema → AreKeys root.keys root.schema → Lacks disk root.keys root.schema f
+    → MayLackRows tests root.keys root.schema f (wanted_places None 0 root.schema) rows → ⊥
+whole_never disk root f tests [] none schema keyed lacks may = may.filtered none
+whole_never disk root f tests (row ∷ rows) none schema keyed lacks may =
+    some_chunk tests root.keys root.schema f (wanted_places None 0 root.schema) schema keyed lacks.is
+    (λ p low kept. let e : 0 + p ≡ p = omega arith in subst (λ (n : ℕ). is_among (wanted_places None 0 root.schema) n ≡ true) e (all_wanted root.schema 0 p low)) may

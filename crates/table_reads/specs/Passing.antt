@@ -1,6 +1,7 @@
 -- Which groups a cursor passes, what it comes to, and how often it reads for them.
-use Rattle.std.specs.Prelude.{◌≡◌, ◌≢◌, ◌≤◌, ◌+◌, ◌-◌, ℕ, Bool, if◌then◌else◌, ◌==◌, List, [], ◌∷◌, ◌++◌, drop, length}
+use Rattle.std.specs.Prelude.{◌≡◌, ◌≢◌, ◌≤◌, ◌<◌, ◌+◌, ◌-◌, ℕ, suc, Bool, if◌then◌else◌, ◌==◌, List, [], ◌∷◌, ◌++◌, drop, length}
 use Rattle.std.specs.Prelude.{Option, Some, None, true, false, Result, Ok, Err}
+use Rattle.std.specs.List.{slice_get}
 use Rattle.bits.specs.declared.refusal.Refusal.{Refusal}
 use Rattle.schema.specs.Shape.{Fields}
 use Rattle.schema.specs.Keys.{KeyColumn}
@@ -9,16 +10,20 @@ use Rattle.filter.specs.Test.{Test, tests_in}
 use Rattle.filter.specs.Deciding.{satisfies as all_satisfied}
 use Rattle.manifest.specs.Groups.{Group as FileGroup, root_of}
 use Rattle.scan.specs.declared.group_rows.GroupRows.{GroupRows}
+use Rattle.scan.specs.Absent.{CanHoldNone, MayLack}
 use Rattle.scan.specs.Cost.{chunks_read}
 use Rattle.scan.specs.Left.{rows_held}
 use Rattle.scan.specs.Selected.{IsRuledOut}
-use Rattle.snapshots.specs.State.{open_at}
+use Rattle.snapshots.specs.State.{State as Versions, open_at}
 use Rattle.snapshots.specs.Views.{state_of}
 use Rattle.table.specs.Table.{Row, Group}
+use Rattle.table.specs.declared.answer.Batch.{Batch as CodeBatch}
 use Rattle.table.specs.declared.answer.Fetched.{Fetched}
+use Rattle.table.specs.declared.answer.Fetched.TheVariants.{Batch as batch_answered, End}
 use Rattle.table.specs.Cursors.{Batch, batches_of}
 use Rattle.table_state.specs.declared.standing.Core.{Core}
 use Rattle.table_state.specs.declared.jobs.OpenCursor.{OpenCursor}
+use Rattle.table_reads.specs.Counting.{CanFilter, LacksIn}
 use Rattle.table_reads.specs.declared.passing.Reached.{Reached}
 use Rattle.table_state.specs.Lookups.{cursor_at}
 
@@ -105,6 +110,47 @@ pub record FetchReads {D T : Type 0} (state : D → DiskState) (old new : Core D
       → (state new.vault.disk).reads ≡ (state old.vault.disk).reads
   pub none : cursor_at n old.cursors.items ≡ None → (state new.vault.disk).reads ≡ (state old.vault.disk).reads
   pub shut : old.closed ≡ true → (state new.vault.disk).reads ≡ (state old.vault.disk).reads
+
+-- ---- where part files are absent
+
+-- The filter of a cursor is one over its table's schema, the table can have its keys, and the versions hold the table's groups for it.
+pub record IsOpened (versions : Versions) (c : OpenCursor) : Type 0 where
+  pub can : CanFilter (tests_in c.filter) (root_of c.table)
+  pub held : open_at c.number versions.cursors ≡ Some (root_of c.table).groups
+
+-- the group of a cursor's version at a place has no part file on the disk
+abbrev pub LacksAt : DiskState → OpenCursor → ℕ → FileGroup → Type 0
+LacksAt disk c place g = (slice_get (root_of c.table).groups place ≡ Some g) × LacksIn disk (root_of c.table) g
+
+-- no file that the root can mean by the group has a row that satisfies the cursor's filter
+abbrev pub MayPass : OpenCursor → FileGroup → Type 0
+MayPass c g = CanHoldNone (tests_in c.filter) (root_of c.table).keys (root_of c.table).schema g
+
+-- what may come of the group, whose part file is absent, by the cursor's filter and columns
+abbrev pub MayComeOf : {A : Type 0} → OpenCursor → FileGroup → Option A → Type 0
+MayComeOf c g rows = MayLack (tests_in c.filter) (root_of c.table).keys (root_of c.table).schema g c.places.items rows
+
+-- A cursor passed groups up to a place, and came to rows of the last of them, or to its end. This says what holds of those whose part
+-- file is absent.
+pub record PassesAbsent {A : Type 0} (disk : DiskState) (c : OpenCursor) (to : ℕ) (rows : Option A) : Type 0 where
+  -- no file of a group before the last can have a row that satisfies
+  pub before : (place : ℕ) (g : FileGroup) → c.passed ≤ place → suc place < to → LacksAt disk c place g → MayPass c g
+  -- no chunk is read for the rows of the last
+  pub last : (place : ℕ) (g : FileGroup) → c.passed ≤ place → suc place ≡ to → LacksAt disk c place g → MayComeOf c g rows
+  -- at its end the cursor has passed all groups
+  pub end : rows ≡ None → (place : ℕ) (g : FileGroup) → c.passed ≤ place → LacksAt disk c place g → MayPass c g
+
+-- the rows that a fetch answers, or its end
+abbrev pub rows_fetched : Fetched → Option CodeBatch
+rows_fetched End = None
+rows_fetched (batch_answered b) = Some b
+
+-- One fetch that was not refused, by a cursor that had not answered its end. Of the groups that it passed, it says what holds of those
+-- whose part file is absent (`PassesAbsent`). What it answers has rows, or is the end.
+abbrev pub FetchesAbsent : {D T A : Type 0} → (D → DiskState) → (T → Option A) → Core D → Core D → ℕ → Result T Refusal → Type 0
+FetchesAbsent state rows old new n (Ok answer) = (state old.vault.disk).honest → (c : OpenCursor) → cursor_at n old.cursors.items ≡ Some c → c.ended ≡ false
+    → IsOpened (state_of old.snapshots) c → (d : OpenCursor) × (cursor_at n new.cursors.items ≡ Some d) × PassesAbsent (state old.vault.disk) c d.passed (rows answer)
+FetchesAbsent state rows old new n (Err e) = Unit {0}
 
 -- ---- over a whole query
 

@@ -5,8 +5,13 @@ use Rattle.std.specs.declared.vec.Vec.{Vec}
 use Rattle.std.specs.declared.alloc.Global.{Global}
 use Rattle.bits.specs.declared.refusal.Refusal.{Refusal}
 use Rattle.schema.specs.declared.row.Row.{Row as CodeRow}
-use Rattle.manifest.specs.Groups.{Group, handles_view}
+use Rattle.schema.specs.Keys.{AreKeys}
+use Rattle.disk.specs.State.{State as DiskState}
+use Rattle.scan.specs.Absent.{Lacks}
+use Rattle.manifest.specs.Groups.{Group, handles_view, root_of}
 use Rattle.planning.specs.declared.change.Sources.{Sources}
+use Rattle.table_state.specs.declared.standing.Core.{Core}
+use Rattle.table_state.specs.Lookups.{job_at}
 use Rattle.table_state.specs.declared.jobs.OpenJob.{OpenJob}
 use Rattle.table_state.specs.declared.jobs.Work.{Work}
 use Rattle.table_state.specs.declared.jobs.Work.TheVariants.{Append, Rewrite}
@@ -39,6 +44,13 @@ next_in (Rewrite r) = source_in r.runs.items (length r.read.items)
 abbrev pub next_at : Option OpenJob → Option Group
 next_at None = None
 next_at (Some j) = next_in j.work
+
+-- The part file of the source that a job reads next is absent, in a table that can have its keys and the source.
+pub record LacksSource {D : Type 0} (state : D → DiskState) (store : Core D) (job : ℕ) : Type 0 where
+  pub keyed : AreKeys (root_of store.manifest).keys (root_of store.manifest).schema
+  pub source : Group
+  pub next : next_at (job_at job store.jobs.items) ≡ Some source
+  pub lacks : Lacks (state store.vault.disk) (root_of store.manifest).keys (root_of store.manifest).schema source
 
 -- the same work, but that a rewrite has read these too
 abbrev pub HasRead : List (Vec CodeRow Global) → Work → Work → Type 0

@@ -2,12 +2,13 @@
 
 ghost use Rattle.std.specs.Prelude.{◌≡◌, ◌≤◌, ◌+◌, ◌↔◌, ◌∷◌, [], List, IfOk, OnOk};
 ghost use Rattle.bits.specs.Refusals.{RefusedOnly, RefusedMemoryOnly};
-ghost use Rattle.filter.specs.Test.{tests_in};
+ghost use Rattle.filter.specs.Test.{Test, tests_in};
 ghost use Rattle.manifest.specs.Groups.{group_view, handles_view, root_of};
+ghost use Rattle.scan.specs.Absent.{NeedsNoFile};
 ghost use Rattle.scan.specs.Faults.{IsDevice};
 ghost use Rattle.table.specs.Table.{Group as TableGroup};
 ghost use Rattle.table_reads.specs.Reading.{OnlyReads};
-ghost use Rattle.table_reads.specs.Counting.{IsHeld, AreHeld, matching};
+ghost use Rattle.table_reads.specs.Counting.{IsHeld, AreHeld, AreAsked, AreSpared, CanFilter, LacksIn, matching};
 ghost use Rattle.filter.specs.Terms.{terms_view};
 ghost use Rattle.table.specs.Calls.{count, counted};
 ghost use Rattle.table.specs.Views.{answered};
@@ -32,6 +33,8 @@ use vault::Vault;
 pub fn count<D: Disk>(store: &mut Core<D>, alloc: Global, terms: &[Vec<Term>]) -> R<u64>
     ensures acts { Acts D.state store.old store.new (count (terms_view terms.now)) (answered counted result) }
     ensures cause { HasCause D.state store.old store.new (answered counted result) }
+    ensures absent { (D.state store.old.vault.disk).honest → (tests : List (List Test)) → AreAsked (root_of store.old.manifest) (terms_view terms.now) tests
+        → IfOk result (λ _. AreSpared (D.state store.old.vault.disk) tests (root_of store.old.manifest) [] (root_of store.old.manifest).groups) }
     ensures leaves { LeavesFiles D.state store.old store.new }
     ensures touches { store.new ≡ record store.old { vault = store.new.vault } }
     ensures unfailed { OnOk result ((D.state store.new.vault.disk).failures ≡ (D.state store.old.vault.disk).failures) }
@@ -64,6 +67,8 @@ fn count_rows<D: Disk>(
         → IfOk result (λ n. n ≡ matching (tests_in filter.now) held) }
     ensures only { (D.state vault.old.disk).honest → (held : List TableGroup) → AreHeld (D.state vault.old.disk) (tests_in filter.now) (root_of table.now) (root_of table.now).groups held
         → RefusedOnly IsDevice result }
+    ensures absent { (D.state vault.old.disk).honest → CanFilter (tests_in filter.now) (root_of table.now)
+        → IfOk result (λ _. AreSpared (D.state vault.old.disk) (tests_in filter.now) (root_of table.now) [] (root_of table.now).groups) }
     ensures effect { OnlyReads (D.state vault.old.disk) (D.state vault.new.disk) result }
 {
     let mut found: u64 = 0;
@@ -86,6 +91,8 @@ fn count_in<D: Disk>(
         → IfOk result (λ n. n ≡ matching (tests_in filter.now) held) }
     ensures only { (D.state vault.old.disk).honest → (held : List TableGroup) → AreHeld (D.state vault.old.disk) (tests_in filter.now) (root_of table.now) (handles_view groups.now) held
         → RefusedOnly IsDevice result }
+    ensures absent { (D.state vault.old.disk).honest → CanFilter (tests_in filter.now) (root_of table.now)
+        → IfOk result (λ _. AreSpared (D.state vault.old.disk) (tests_in filter.now) (root_of table.now) [] (handles_view groups.now)) }
     ensures effect { OnlyReads (D.state vault.old.disk) (D.state vault.new.disk) result }
 {
     let mut found: u64 = 0;
@@ -108,6 +115,8 @@ fn count_at<D: Disk>(
         → IfOk result (λ n. n ≡ matching (tests_in filter.now) (held ∷ [])) }
     ensures only { (D.state vault.old.disk).honest → (held : TableGroup) → IsHeld (D.state vault.old.disk) (tests_in filter.now) (root_of table.now) (group_view group.now) held
         → RefusedOnly IsDevice result }
+    ensures absent { (D.state vault.old.disk).honest → CanFilter (tests_in filter.now) (root_of table.now) → LacksIn (D.state vault.old.disk) (root_of table.now) (group_view group.now)
+        → IfOk result (λ _. NeedsNoFile (tests_in filter.now) (root_of table.now).keys (root_of table.now).schema (group_view group.now) []) }
     ensures effect { OnlyReads (D.state vault.old.disk) (D.state vault.new.disk) result }
 {
     let found = GroupRows::read(

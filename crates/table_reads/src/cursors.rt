@@ -4,8 +4,9 @@ ghost use Rattle.std.specs.Prelude.{◌≡◌, ◌≤◌, ◌↔◌, true, OnOk,
 ghost use Rattle.filter.specs.Terms.{terms_view};
 ghost use Rattle.table.specs.Calls.{Answer, query, fetch, close, cursor, accepted, ended};
 ghost use Rattle.table.specs.Views.{names_view, fetched_view, answered};
+ghost use Rattle.table_commits.specs.Cleaning.{LeavesTidy};
 ghost use Rattle.table_commits.specs.Keeping.{LeavesFiles};
-ghost use Rattle.table_reads.specs.Passing.{FetchReads};
+ghost use Rattle.table_reads.specs.Passing.{FetchReads, FetchesAbsent, rows_fetched};
 ghost use Rattle.table_reads.specs.Shown.{IsShownAs};
 ghost use Rattle.table_state.specs.Promises.{Acts, HasCause, StaysClosed, TouchesCursors};
 
@@ -75,6 +76,7 @@ pub fn fetch<D: Disk>(store: &mut Core<D>, alloc: Global, cursor: CursorId) -> R
     ensures acts { Acts D.state store.old store.new (fetch cursor) (answered fetched_view result) }
     ensures cause { HasCause D.state store.old store.new (answered fetched_view result) }
     ensures reads { FetchReads D.state store.old store.new cursor result }
+    ensures absent { FetchesAbsent D.state rows_fetched store.old store.new cursor result }
     ensures leaves { LeavesFiles D.state store.old store.new }
     ensures closed { StaysClosed store.old store.new result }
     ensures touches { TouchesCursors store.old store.new }
@@ -113,6 +115,7 @@ pub fn fetch_rows<D: Disk>(
     ensures acts { (answer : Answer) → IsShownAs result answer → Acts D.state store.old store.new (fetch cursor) answer }
     ensures cause { HasCause D.state store.old store.new (answered (λ _. ended) result) }
     ensures reads { FetchReads D.state store.old store.new cursor result }
+    ensures absent { FetchesAbsent D.state (λ rows. rows) store.old store.new cursor result }
     ensures leaves { LeavesFiles D.state store.old store.new }
     ensures closed { StaysClosed store.old store.new result }
     ensures touches { TouchesCursors store.old store.new }
@@ -146,10 +149,12 @@ pub fn fetch_rows<D: Disk>(
 pub fn close<D: Disk>(store: &mut Core<D>, alloc: Global, cursor: CursorId) -> R<()>
     ensures acts { Acts D.state store.old store.new (close cursor) (answered (λ _. accepted) result) }
     ensures cause { HasCause D.state store.old store.new (answered (λ _. accepted) result) }
+    // No part file is left that nothing needs, unless a cleaning met a fault, or the store keeps what is replaced.
+    ensures tidy { LeavesTidy D.state store.old store.new result }
     // A store that keeps what is replaced removes nothing here.
     ensures leaves { store.old.keeps ≡ true → LeavesFiles D.state store.old store.new }
     ensures closed { StaysClosed store.old store.new result }
-    ensures touches { TouchesCursors store.old store.new }
+    ensures touches { TouchesCursors (record store.old { clean = store.new.clean }) store.new }
     ensures counts { (D.state store.old.vault.disk).failures ≤ (D.state store.new.vault.disk).failures }
     ensures honest { (D.state store.old.vault.disk).honest ↔ (D.state store.new.vault.disk).honest }
 {

@@ -14,9 +14,10 @@ ghost use Rattle.table.specs.Cursors.{Cursor};
 ghost use Rattle.table.specs.History.{next_answer};
 ghost use Rattle.table.specs.Views.{fetched_view};
 ghost use Rattle.table_state.specs.Stands.{ShowsCursor};
+ghost use Rattle.table_reads.specs.Counting.{CanFilter, LacksIn};
 ghost use Rattle.table_reads.specs.Reading.{OnlyReads, ReadsFor};
 ghost use Rattle.table_reads.specs.Shown.{AreShown};
-ghost use Rattle.table_reads.specs.Passing.{AreReached, Comes, Goes, batches_with, moved, moved_at};
+ghost use Rattle.table_reads.specs.Passing.{AreReached, Comes, Goes, IsOpened, MayComeOf, PassesAbsent, batches_with, moved, moved_at};
 
 use bits::{R, Refusal};
 use disk::Disk;
@@ -55,6 +56,8 @@ pub(crate) fn next_rows<D: Disk>(
     ensures accepted { IfOk result (λ r. (rows : List ValueTrees) × AreReached r.rows rows) }
     ensures only { (D.state vault.old.disk).honest → (keys : List KeyColumn) (count : ℕ) (open_cursor : ℕ × Cursor) → ShowsCursor (D.state vault.old.disk) (state_of snapshots.now).cursors keys count cursor.now open_cursor
         → RefusedOnly IsDevice result }
+    ensures absent { (D.state vault.old.disk).honest → IsOpened (state_of snapshots.now) cursor.now
+        → IfOk result (λ r. PassesAbsent (D.state vault.old.disk) cursor.now r.passed r.rows) }
     ensures goes { (version : List FileGroup) → open_at cursor.now.number (state_of snapshots.now).cursors ≡ Some version
         → Goes cursor.now version (D.state vault.old.disk) (D.state vault.new.disk) result }
     ensures unheld { open_at cursor.now.number (state_of snapshots.now).cursors ≡ None → (D.state vault.new.disk).reads ≡ (D.state vault.old.disk).reads }
@@ -88,6 +91,9 @@ fn rows_at<D: Disk>(
     ensures only { (D.state vault.old.disk).honest → AreKeys (root_of cursor.now.table).keys (root_of cursor.now.table).schema → (g : FileGroup) (rows : List ValueTrees)
         → group_in (version_at (state_of snapshots.now) (Some cursor.now.number)) place ≡ Some g → Holds (D.state vault.old.disk) (root_of cursor.now.table).keys (root_of cursor.now.table).schema g rows
         → RefusedOnly IsDevice result }
+    ensures absent { (D.state vault.old.disk).honest → CanFilter (tests_in cursor.now.filter) (root_of cursor.now.table) → (g : FileGroup)
+        → group_in (version_at (state_of snapshots.now) (Some cursor.now.number)) place ≡ Some g
+        → LacksIn (D.state vault.old.disk) (root_of cursor.now.table) g → IfOk result (MayComeOf cursor.now g) }
     ensures reads { (g : FileGroup) → group_in (version_at (state_of snapshots.now) (Some cursor.now.number)) place ≡ Some g
         → ReadsFor (tests_in cursor.now.filter) (root_of cursor.now.table).keys (root_of cursor.now.table).schema cursor.now.places.items g (D.state vault.old.disk) (D.state vault.new.disk) }
     ensures missing { group_in (version_at (state_of snapshots.now) (Some cursor.now.number)) place ≡ None → IsErr result × ((D.state vault.new.disk).reads ≡ (D.state vault.old.disk).reads) }

@@ -2,9 +2,10 @@
 
 ghost use Rattle.std.specs.Prelude.{◌≡◌, [], map, option_map, IfOk};
 ghost use Rattle.bits.specs.Refusals.{RefusedOnly};
-ghost use Rattle.schema.specs.Keys.{row_without_keys};
+ghost use Rattle.schema.specs.Keys.{AreKeys, row_without_keys};
 ghost use Rattle.schema.specs.Views.{rows_view};
 ghost use Rattle.manifest.specs.Groups.{group_view, root_of};
+ghost use Rattle.scan.specs.Absent.{Lacks};
 ghost use Rattle.scan.specs.Faults.{IsDevice};
 ghost use Rattle.scan.specs.Left.{AreAccepted};
 ghost use Rattle.table.specs.Table.{Group as TableGroup};
@@ -44,6 +45,8 @@ pub fn whole_rows<D: Disk>(
         → IfOk result (λ rows. rows_view rows.items ≡ held.rows) }
     ensures only { (D.state vault.old.disk).honest → (held : TableGroup) → IsHeld (D.state vault.old.disk) [] (root_of table.now) (group_view group.now) held
         → RefusedOnly IsDevice result }
+    ensures absent { (D.state vault.old.disk).honest → AreKeys (root_of table.now).keys (root_of table.now).schema
+        → Lacks (D.state vault.old.disk) (root_of table.now).keys (root_of table.now).schema (group_view group.now) → IfOk result (λ _. ⊥) }
     ensures effect { OnlyReads (D.state vault.old.disk) (D.state vault.new.disk) result }
     ensures sure { IsSure result }
 {
@@ -60,6 +63,8 @@ pub fn whole_rows<D: Disk>(
         &filter,
         places.as_slice(),
     )?;
+    // For the proof: what is known of the schema.
+    let _ = table.schema().leaves();
     Ok(rows)
 }
 
@@ -79,6 +84,8 @@ pub fn shown_rows<D: Disk>(
     ensures accepted { IfOk result AreAccepted }
     ensures only { (D.state vault.old.disk).honest → (held : TableGroup) → IsHeld (D.state vault.old.disk) [] (root_of table.now) (group_view group.now) held
         → RefusedOnly IsDevice result }
+    ensures absent { (D.state vault.old.disk).honest → AreKeys (root_of table.now).keys (root_of table.now).schema
+        → Lacks (D.state vault.old.disk) (root_of table.now).keys (root_of table.now).schema (group_view group.now) → IfOk result (λ _. ⊥) }
     ensures effect { OnlyReads (D.state vault.old.disk) (D.state vault.new.disk) result }
     ensures sure { IsSure result }
 {
@@ -95,6 +102,8 @@ pub fn shown_rows<D: Disk>(
         &filter,
         places.as_slice(),
     )?;
+    // For the proof: what is known of the schema.
+    let _ = table.schema().leaves();
     Ok(rows)
 }
 

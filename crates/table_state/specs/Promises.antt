@@ -52,10 +52,11 @@ ClosesInDoubt new result = result ≡ Err InDoubt → new.closed ≡ true
 
 -- On any disk, whatever a call answers: which parts of a store it may change. All others are as they were.
 
--- a commit of its own: the disk, the table, which files are in use, the next number of a file, and that the store is closed; no job, no
--- cursor and no setting
+-- a commit of its own: the disk, the table, which files are in use, the next number of a file, that the store is closed, and whether a
+-- cleaning met a fault; no job, no cursor and no setting
 abbrev pub TouchesTable : {D : Type 0} → Core D → Core D → Type 0
-TouchesTable old new = new ≡ record old { vault = new.vault; manifest = new.manifest; snapshots = new.snapshots; next_group = new.next_group; closed = new.closed }
+TouchesTable old new =
+    new ≡ record old { vault = new.vault; manifest = new.manifest; snapshots = new.snapshots; next_group = new.next_group; closed = new.closed; clean = new.clean }
 
 -- a call on jobs: the disk, which files are in use, the next number of a file, and jobs; not the table, and no cursor
 abbrev pub TouchesJobs : {D : Type 0} → Core D → Core D → Type 0
@@ -63,8 +64,7 @@ TouchesJobs old new = new ≡ record old { vault = new.vault; snapshots = new.sn
 
 -- the commit of a job: as a commit of its own, and jobs
 abbrev pub TouchesTableAndJobs : {D : Type 0} → Core D → Core D → Type 0
-TouchesTableAndJobs old new =
-    new ≡ record old { vault = new.vault; manifest = new.manifest; snapshots = new.snapshots; next_group = new.next_group; jobs = new.jobs; closed = new.closed }
+TouchesTableAndJobs old new = TouchesTable (record old { jobs = new.jobs }) new
 
 -- A change that is refused, the commit of a job too: the disk, which files are in use, the next number of a file, and that the store is
 -- closed. The table is the one before, and so are all jobs, cursors and settings.

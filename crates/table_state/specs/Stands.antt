@@ -7,7 +7,7 @@ use Rattle.schema.specs.Fits.{RowsFit}
 use Rattle.schema.specs.Stripe.{leaves_of}
 use Rattle.schema.specs.Cutting.{is_among as is_number_among}
 use Rattle.schema.specs.Keys.{KeyColumn, AreKeys, AreDistinct, AreRowsOf, key_of_row, without_keys}
-use Rattle.disk.specs.State.{State as DiskState}
+use Rattle.disk.specs.State.{State as DiskState, content}
 use Rattle.vault.specs.Views.{IsKept, root_path}
 use Rattle.partition.specs.Folders.{CanPartition, part_path_of}
 use Rattle.partition.specs.Splitting.{KeyRows, key_rows_view}
@@ -204,6 +204,16 @@ pub record AreNumbered (count : ℕ) (ns : List ℕ) : Type 0 where
 abbrev pub AreFilesBelow : ℕ → Versions → Type 0
 AreFilesBelow count versions = (f : File) → versions.files f ≡ true → f.number < count
 
+-- each part file that the disk reads in a key folder is tracked
+abbrev pub AreTracked : DiskState → List KeyColumn → Versions → Type 0
+AreTracked disk keys versions = (key : Key) (number : ℕ) → CanPartition keys key → number < 2 ^ 64 → (bytes : List ℕ)
+    → content disk.seen (part_path_of keys key number) ≡ Some bytes → versions.files (record { number = number; key = key }) ≡ true
+
+-- Each part file that the disk reads in a key folder of the table is tracked, if no cleaning met a fault since one of the whole
+-- dataset.
+abbrev pub IsTracked : {D : Type 0} → DiskState → Core D → Type 0
+IsTracked disk store = store.clean ≡ true → AreTracked disk (root_of store.manifest).keys (state_of store.snapshots)
+
 -- An open store: its root is kept, and so are the files of all that is open. Nothing is in doubt, and no two jobs wrote
 -- one number.
 pub record ShowsOpen {D : Type 0} (disk : DiskState) (store : Core D) (s : State) : Type 0 where
@@ -222,6 +232,7 @@ pub record ShowsOpen {D : Type 0} (disk : DiskState) (store : Core D) (s : State
   pub numbered_cursors : AreNumbered s.next_cursor (numbers_at s.cursors)
   pub parted : AreDistinct (numbers_of (written_in store.jobs.items))
   pub files : AreFilesBelow s.next_group (state_of store.snapshots)
+  pub tracked : IsTracked disk store
 
 -- The store, by its fields and its disk, shows this state.
 pub record Shows {D : Type 0} (state : D → DiskState) (store : Core D) (s : State) : Type 0 where

@@ -26,7 +26,8 @@ pub struct Core<D: Disk> {
     pub next_cursor: u64,
     pub next_group: u64,
     pub closed: bool,
-    /// Whether the last opening cleaned, and met no fault at it.
+    /// Whether no cleaning met a fault since one of the whole dataset, by an opening or by `clean_up`. It is false where none was
+    /// made. While it is true, each part file in the key folders is tracked by `snapshots`.
     pub clean: bool,
     /// Whether files that are replaced are kept, and an opening anew cleans nothing: others may be reading them.
     pub keeps: bool,

@@ -75,3 +75,8 @@ pub returns-clause-cause : goal.returns-clause-cause
 returns-clause-cause g c honest s stands failed =
     let for_table = subst (λ (r : Root). AreGatheredFor r c.args.store.now.options c.in_ok-gathered.gathered) c.in_ok-table.ensures.same c.in_ok-gathered.ensures.table in
     c.append_gathered.ensures.cause (rows_view c.args.rows.now) c.in_ok-gathered.ensures.held for_table honest s stands failed
+
+pub returns-clause-tidy : goal.returns-clause-tidy
+returns-clause-tidy g c honest s stands keeps =
+    let for_table = subst (λ (r : Root). AreGatheredFor r c.args.store.now.options c.in_ok-gathered.gathered) c.in_ok-table.ensures.same c.in_ok-gathered.ensures.table in
+    c.append_gathered.ensures.tidy (rows_view c.args.rows.now) c.in_ok-gathered.ensures.held for_table honest s stands keeps

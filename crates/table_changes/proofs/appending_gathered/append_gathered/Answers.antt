@@ -91,3 +91,17 @@ returns-then-count-eq0-clause-other g c = λ none is_open. absurd (none (c.is_ga
 
 pub returns-clause-other : goal.returns-clause-other
 returns-clause-other g c = λ none is_open. absurd (none (c.is_gathered_for.ensures.0 c.if-not-is_gathered_for.false))
+
+pub returns-clause-tidy : goal.returns-clause-tidy
+returns-clause-tidy g c given held fits honest s stands keeps =
+    let old = c.args.store.now in
+    let is_open = sym stands.shows.closed ∙ c.if-store.false in
+    let low : s.next_group < 9223372036854775808 = let a = stands.shows.next_group in let b = c.if-store-ge-MOST_NUMBERS.false in omega (arith, a, b) in
+    let shows = stands.shows in
+    let can = with_keys g.D.Disk.state old s shows c.args.gathered given held fits (c.in_ok-groups.ensures.fine given held) in
+    let fault = no_fault s.table (columns g.D.Disk.state old s stands is_open given) given (all_fit g.D.Disk.state old s shows c.args.gathered given held fits) can in
+    c.append_groups.ensures.tidy honest s stands is_open given (fine g.D.Disk.state old s stands is_open given low fault)
+    (groups_are g.D.Disk.state old s shows c.args.gathered given held fits c.in_ok-groups.groups.items (c.in_ok-groups.ensures.groups given held)) keeps
+
+pub returns-then-count-eq0-clause-tidy : goal.returns-then-count-eq0-clause-tidy
+returns-then-count-eq0-clause-tidy g c given held fits honest s stands keeps some = absurd (some refl)

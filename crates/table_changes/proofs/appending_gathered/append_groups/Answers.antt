@@ -134,3 +134,9 @@ returns-clause-acts g c honest s given stands is_open fine some many hold =
     subst (λ (n : ℕ). ActsFrom g.D.Disk.state old new (append given) (done n) s) (sym many)
     (done_so g.D.Disk.state old s stands is_open given fine some mid files filled next falls above least gs are new
     (c.in_ok-commit_version.ensures.turns (c.in_ok-written.ensures.honest.0 honest) _ _ s.jobs filled.written.wrote.shows is_open plan))
+
+pub returns-clause-tidy : goal.returns-clause-tidy
+returns-clause-tidy g c honest s stands is_open given fine hold keeps some =
+    let old = c.args.store.now in
+    let filled = c.in_ok-written.ensures.writes honest old s given is_open (all_fine g.D.Disk.state old s stands is_open given fine) hold (starts g.D.Disk.state old s stands is_open given fine) stands.shows.next_group in
+    c.in_ok-commit_version.ensures.tidy (c.in_ok-written.ensures.honest.0 honest) _ filled.written.wrote.shows is_open (ap (λ (st : Core g.row.D.Denot). st.keeps) c.in_ok-written.ensures.same ∙ keeps)

@@ -3,7 +3,7 @@ use Rattle.bits.specs.declared.refusal.Refusal.{Refusal}
 use Rattle.vault.proofs.Chained.{refused}
 use Rattle.vault.specs.Calls.{HasFailed}
 use Rattle.schema.specs.Elements.{elements_view}
-use Rattle.manifest.specs.Groups.{root_of}
+use Rattle.manifest.specs.Groups.{Root, root_of}
 use Rattle.table.specs.Calls.{add_column, done}
 use Rattle.table.specs.State.{widened_jobs}
 use Rattle.table.specs.Refusing.{is_failure}
@@ -68,3 +68,6 @@ returns-clause-acts g c honest s stands =
     let plan = planned g.D.Disk.state old s stands is_open es root made in
     let t = grown g.D.Disk.state old s stands is_open es root made in
     done_so g.D.Disk.state old s stands is_open es root made c.commit_to.new.store (c.in_ok-commit_to.ensures.turns honest s t (widened_jobs s.jobs) stands.shows is_open plan)
+
+pub returns-clause-tidy : goal.returns-clause-tidy
+returns-clause-tidy g c honest s stands keeps = c.in_ok-commit_to.ensures.tidy honest s stands.shows (sym stands.shows.closed ∙ c.if-store.false) (ap (λ (r : Root). r.keys) c.in_ok-manifest.ensures.made.is) keeps

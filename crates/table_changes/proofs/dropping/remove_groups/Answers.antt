@@ -101,3 +101,9 @@ commit_version-requires g c =
       each = subst (λ (gs : List FileGroup). CanHave root gs) (sym c.in_ok-groups.ensures.left)
           (all_kept (λ (f : FileGroup). not (is_among ns f.number)) (IsGroup root.keys (stored_of root)) (groups_in c.groups-2.result.now) c.groups-2.ensures.each);
     }
+
+pub returns-then-is_empty-clause-tidy : goal.returns-then-is_empty-clause-tidy
+returns-then-is_empty-clause-tidy g c some honest s stands keeps = absurd (some (nil_from_length c.args.numbers.now (eqb-true (length c.args.numbers.now) 0 (sym c.is_empty.ensures ∙ c.if-is_empty.true))))
+
+pub returns-clause-tidy : goal.returns-clause-tidy
+returns-clause-tidy g c some honest s stands keeps = c.in_ok-commit_version.ensures.tidy honest s stands.shows (sym stands.shows.closed ∙ c.if-store.false) keeps

@@ -80,3 +80,8 @@ pub returns-clause-cause : goal.returns-clause-cause
 returns-clause-cause g c honest s stands failed =
     let read = subst (λ (r : Root). IsReadFor r c.args.store.now.options c.args.bytes.now c.in_ok-gathered.gathered) c.in_ok-table.ensures.same c.in_ok-gathered.ensures.read in
     c.append_gathered.ensures.cause read.rows read.held read.table honest s stands failed
+
+pub returns-clause-tidy : goal.returns-clause-tidy
+returns-clause-tidy g c honest s stands keeps =
+    let read = subst (λ (r : Root). IsReadFor r c.args.store.now.options c.args.bytes.now c.in_ok-gathered.gathered) c.in_ok-table.ensures.same c.in_ok-gathered.ensures.read in
+    c.append_gathered.ensures.tidy read.rows read.held read.table honest s stands keeps

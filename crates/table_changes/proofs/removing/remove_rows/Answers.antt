@@ -1,4 +1,4 @@
-use Rattle.std.proofs.Common.{◌≡◌, ◌≤◌, ◌<◌, ◌⊎◌, ℕ, true, List, Err, inl, inr, ap, sym, ◌∙◌, subst}
+use Rattle.std.proofs.Common.{refl, ◌≡◌, ◌≤◌, ◌<◌, ◌⊎◌, ℕ, true, List, Err, inl, inr, ap, sym, ◌∙◌, subst}
 use Rattle.std.specs.List.{AllByRecursion}
 use Rattle.bits.specs.declared.refusal.Refusal.{Refusal}
 use Rattle.bits.specs.declared.refusal.Refusal.TheVariants.{Device, InDoubt, Memory}
@@ -174,3 +174,21 @@ returns-then-removed-eq0-clause-unwritten g c none = c.in_ok-removed.ensures.unw
 
 pub returns-clause-unwritten : goal.returns-clause-unwritten
 returns-clause-unwritten g c none = absurd (c.if-removed-eq0.false none)
+
+pub returns-then-removed-eq0-clause-absent : goal.returns-then-removed-eq0-clause-absent
+returns-then-removed-eq0-clause-absent g c honest can none = c.in_ok-removed.ensures.absent honest c.in_ok-table.ensures.same can c.if-removed-eq0.true
+
+pub returns-clause-absent : goal.returns-clause-absent
+returns-clause-absent g c honest can none = absurd (c.if-removed-eq0.false none)
+
+pub returns-then-removed-eq0-clause-tidy : goal.returns-then-removed-eq0-clause-tidy
+returns-then-removed-eq0-clause-tidy g c honest s stands is_open terms fine made keeps some = absurd (some refl)
+
+pub returns-clause-tidy : goal.returns-clause-tidy
+returns-clause-tidy g c honest s stands is_open terms fine made keeps some =
+    let st = g.D.Disk.state in
+    let old = c.args.store.now in
+    let mid = c.replace_groups.new.store in
+    let tests = tests_in c.args.filter.now in
+    let r = replaced_by st old s stands is_open terms fine tests made mid c.in_ok-removed.removed (c.in_ok-removed.ensures.replaces honest s terms c.in_ok-table.ensures.same is_open made (begins st old s stands is_open) stands.shows.next_group) in
+    c.in_ok-commit_version.ensures.tidy (c.in_ok-removed.ensures.honest.0 honest) _ r.written.wrote.shows is_open (ap (λ (x : Core g.row.D.Denot). x.keeps) c.in_ok-removed.ensures.same ∙ keeps)

@@ -96,3 +96,9 @@ returns-clause-unwritten g c =
     let some = c.if-remains-eq0.false in
     after_ok c.put_remains.result (after ≡ before + c.in_ok-remains.remains.gone) (after ≡ 0 → Unwritten g.D.Disk.state c.args.store.now c.put_remains.new.store)
     (λ is none. absurd (omega (arith, is, none, some))) c.put_remains.ensures.counted
+
+pub returns-then-remains-eq0-clause-absent : goal.returns-then-remains-eq0-clause-absent
+returns-then-remains-eq0-clause-absent g c honest can f there lacks = (c.in_ok-remains.ensures.absent honest can f there lacks).1
+
+pub returns-clause-absent : goal.returns-clause-absent
+returns-clause-absent g c honest can f there lacks = absurd (c.if-remains-eq0.false (c.in_ok-remains.ensures.absent honest can f there lacks).0)

@@ -1,7 +1,10 @@
+use Rattle.std.proofs.Common.{◌∙◌, ap}
 use Rattle.vault.proofs.Chained.{refused}
-use Rattle.manifest.specs.Groups.{root_of, groups_in}
+use Rattle.manifest.specs.Groups.{Root, root_of, groups_in}
+use Rattle.snapshots.specs.Views.{state_of}
+use Rattle.table_state.specs.declared.standing.Core.{Core}
 use Rattle.table_commits.specs.Committing.{Turns, with_version}
-use Rattle.table_commits.proofs.CommitSteps.{is_turn, not_made, done_and_cleared, shows_turned}
+use Rattle.table_commits.proofs.CommitSteps.{prepared_so, is_turn, not_made, done_and_cleared, shows_turned}
 use Rattle.table_commits.proofs.committing.commit_version.Goals as goal
 
 pub returns-in_err-turn-clause-turns : goal.returns-in_err-turn-clause-turns
@@ -27,3 +30,10 @@ returns-clause-turns g c honest s t jobs shows is_open planned =
     let shown = shows_turned g.D.Disk.state old s t jobs shows is_open c.args.job root planned _ mid one in
     let two = c.let_go.ensures.clears (c.take_turn.ensures.honest.0 honest) _ shown is_open in
     done_and_cleared g.D.Disk.state old s t jobs shows is_open c.args.job root planned _ tt mid c.let_go.new.store one two
+
+pub returns-clause-tidy : goal.returns-clause-tidy
+returns-clause-tidy g c honest s shows is_open keeps =
+    let old = c.args.store.now in
+    let made = c.in_ok-turn.ensures.made in
+    let tracked = c.in_ok-take_turn.ensures.tracks honest s shows is_open (ap (λ (r : Root). r.keys) made.manifest_is) (prepared_so (state_of old.snapshots) _ c.args.job c.in_ok-turn.turn made) in
+    c.let_go.ensures.tidy (c.take_turn.ensures.honest.0 honest) tracked (ap (λ (st : Core g.row.D.Denot). st.keeps) c.take_turn.ensures.touches ∙ keeps)

@@ -47,9 +47,10 @@ returns-in_err-put-clause-writes g c honest s key rows shows is_open there ready
     let puts = c.in_err-put.ensures.effect (subst (λ (p : List ℕ). CanPut disk p) (sym path) can) in
     let same = c.in_ok-staged.ensures.cases in
     let number = ap (λ (x : CodeGroup). (group_view x).number) same ∙ ready.number_is in
+    let key_is = ap (λ (x : CodeGroup). (group_view x).key) same ∙ ready.key_is in
     let new = record old { vault = c.put.new.self; snapshots = c.step.new.self; next_group = old.next_group + 1 } in
     refused (λ r. Writes g.D.Disk.state old new c.args.job key rows r s) c.from_residual-in_err-put.result _ c.from_residual-in_err-put.ensures.1
-    (put_refused g.D.Disk.state old s c.args.job key rows shows is_open part ready c.requires.counter c.in_ok-staged.staged number c.step.new.self c.in_ok-step.ensures.done c.put.new.self
+    (put_refused g.D.Disk.state old s c.args.job key rows shows is_open part ready c.requires.counter c.in_ok-staged.staged number key_is c.step.new.self c.in_ok-step.ensures.done c.put.new.self
     c.as_slice.result.now c.in_err-put.field-0.0 (subst (λ (p : List ℕ). Puts {T = Unit {0}} p c.as_slice.result.now disk (g.D.Disk.state c.put.new.self.disk) (Err c.in_err-put.field-0.0)) path puts))
 
 pub returns-clause-writes : goal.returns-clause-writes
@@ -62,7 +63,8 @@ returns-clause-writes g c honest s key rows shows is_open there ready =
     let puts = c.in_ok-put.ensures.effect (subst (λ (p : List ℕ). CanPut disk p) (sym path) can) in
     let same = c.in_ok-staged.ensures.cases in
     let number = ap (λ (x : CodeGroup). (group_view x).number) same ∙ ready.number_is in
-    put_done g.D.Disk.state old s c.args.job key rows shows is_open part ready c.requires.counter c.in_ok-staged.staged number c.step.new.self c.in_ok-step.ensures.done c.put.new.self c.in_ok-put.field-0 there (ap (λ (x : CodeGroup). group_view x) same)
+    let key_is = ap (λ (x : CodeGroup). (group_view x).key) same ∙ ready.key_is in
+    put_done g.D.Disk.state old s c.args.job key rows shows is_open part ready c.requires.counter c.in_ok-staged.staged number key_is c.step.new.self c.in_ok-step.ensures.done c.put.new.self c.in_ok-put.field-0 there (ap (λ (x : CodeGroup). group_view x) same)
     (subst (λ (b : List ℕ). Puts {T = Unit {0}} (string_bytes part.path) b disk (g.D.Disk.state c.put.new.self.disk) (Ok c.in_ok-put.field-0)) c.as_slice.ensures.value
     (subst (λ (p : List ℕ). Puts {T = Unit {0}} p c.as_slice.result.now disk (g.D.Disk.state c.put.new.self.disk) (Ok c.in_ok-put.field-0)) path puts))
 

@@ -5,7 +5,7 @@ use Rattle.table.specs.Views.{answered}
 use Rattle.table_state.specs.Lookups.{job_at}
 use Rattle.table_state.specs.Promises.{ActsFrom}
 use Rattle.table_commits.proofs.UnchangedRefusals.{acts_shut}
-use Rattle.table_reads.proofs.SomethingEnds.{not_there, is_there}
+use Rattle.table_reads.proofs.SomethingEnds.{not_there, is_there, job_ended}
 use Rattle.table_reads.proofs.AbortsAndCloses.{no_job, abort_refused, aborted}
 use Rattle.table_jobs.proofs.ending.abort.Goals as goal
 
@@ -33,3 +33,9 @@ returns-clause-acts g c honest s stands =
     let found = ap (job_at c.args.job) (sym c.as_slice.ensures.value) ∙ some.1 in
     aborted g.D.Disk.state old s stands (sym stands.shows.closed ∙ c.if-store.false) c.args.job some.0 found c.step.new.self c.in_ok-step.ensures.done c.end_job.new.jobs c.end_job.ensures c.let_go.new.store
     (c.let_go.ensures.clears honest)
+
+pub returns-clause-tidy : goal.returns-clause-tidy
+returns-clause-tidy g c honest s stands keeps =
+    let is_open = sym stands.shows.closed ∙ c.if-store.false in
+    let shown = job_ended g.D.Disk.state c.args.store.now s stands is_open c.args.job c.step.new.self c.in_ok-step.ensures.done c.end_job.new.jobs c.end_job.ensures in
+    c.let_go.ensures.tidy honest (shown.shown is_open).tracked keeps

@@ -7,7 +7,7 @@ use Rattle.table_state.specs.Promises.{ActsFrom}
 use Rattle.table_jobs.proofs.EmptyCommits.{empty_refused, empty_done}
 use Rattle.table_state.specs.Lookups.{job_at}
 use Rattle.table_commits.proofs.UnchangedRefusals.{acts_shut}
-use Rattle.table_reads.proofs.SomethingEnds.{not_there, is_there}
+use Rattle.table_reads.proofs.SomethingEnds.{not_there, is_there, job_ended}
 use Rattle.table_jobs.proofs.JobChecks.{commit_no_job, commit_full, commit_fine}
 use Rattle.table_jobs.proofs.RewriteSources.{rewrite_there}
 use Rattle.table_jobs.proofs.ending.commit.Goals as goal
@@ -91,3 +91,31 @@ returns-clause-cause g c honest s stands =
     let something : finds_nothing (job_at n old.jobs.items) ≡ false = ap (λ js. finds_nothing (job_at n js)) (sym c.as_slice-2.ensures.value) ∙ sym c.finds_nothing.ensures ∙ c.if-finds_nothing.false in
     let t = rewrite_there some.0 (job_at n old.jobs.items) found other something in
     c.commit_rewrite.ensures.cause honest s t.0 stands is_open low (some.0, found, t.1) t.2
+
+pub returns-then-finds_nothing-clause-tidy : goal.returns-then-finds_nothing-clause-tidy
+returns-then-finds_nothing-clause-tidy g c honest s stands keeps =
+    let is_open = sym stands.shows.closed ∙ c.if-store.false in
+    let shown = job_ended g.D.Disk.state c.args.store.now s stands is_open c.args.job c.step.new.self c.in_ok-step.ensures.done c.end_job.new.jobs c.end_job.ensures in
+    c.let_go.ensures.tidy honest (shown.shown is_open).tracked keeps
+
+pub returns-then-finds_append-clause-tidy : goal.returns-then-finds_append-clause-tidy
+returns-then-finds_append-clause-tidy g c honest s stands keeps =
+    let old = c.args.store.now in
+    let n = c.args.job in
+    let is_open = sym stands.shows.closed ∙ c.if-store.false in
+    let low : s.next_group < 9223372036854775808 = let a = stands.shows.next_group in let b = c.if-store-ge-MOST_NUMBERS.false in omega (arith, a, b) in
+    let there : finds_append (job_at n old.jobs.items) ≡ true = ap (λ js. finds_append (job_at n js)) (sym c.as_slice-3.ensures.value) ∙ sym c.finds_append.ensures ∙ c.if-finds_append.true in
+    c.commit_append.ensures.tidy honest s stands is_open (commit_fine g.D.Disk.state old s stands is_open n there low) there keeps
+
+pub returns-clause-tidy : goal.returns-clause-tidy
+returns-clause-tidy g c honest s stands keeps =
+    let old = c.args.store.now in
+    let n = c.args.job in
+    let is_open = sym stands.shows.closed ∙ c.if-store.false in
+    let some = is_there (λ j. j.now) c.find_job.result (job_at n c.as_slice.result.now) c.is_none.result c.is_none.ensures c.if-is_none.false c.find_job.ensures in
+    let found = ap (job_at n) (sym c.as_slice.ensures.value) ∙ some.1 in
+    let low : s.next_group < 9223372036854775808 = let a = stands.shows.next_group in let b = c.if-store-ge-MOST_NUMBERS.false in omega (arith, a, b) in
+    let other : finds_append (job_at n old.jobs.items) ≡ false = ap (λ js. finds_append (job_at n js)) (sym c.as_slice-3.ensures.value) ∙ sym c.finds_append.ensures ∙ c.if-finds_append.false in
+    let something : finds_nothing (job_at n old.jobs.items) ≡ false = ap (λ js. finds_nothing (job_at n js)) (sym c.as_slice-2.ensures.value) ∙ sym c.finds_nothing.ensures ∙ c.if-finds_nothing.false in
+    let t = rewrite_there some.0 (job_at n old.jobs.items) found other something in
+    c.commit_rewrite.ensures.tidy honest s t.0 stands is_open low (some.0, found, t.1) t.2 keeps

@@ -371,3 +371,22 @@ returns-clause-acts g c honest s stands is_open fine is_append something =
     subst (λ (k : ℕ). ActsFrom g.D.Disk.state old new (commit n) (done k) s) (sym counted)
     (done_so g.D.Disk.state old s stands is_open n fine t.x t.a t.there t.is fit something mid (handles_view c.in_ok-rests.rests.items) filled same next falls above least gs are new
     (c.in_ok-commit_version.ensures.turns (c.in_ok-rests.ensures.honest.0 honest) _ _ (ended_at n s.jobs) filled.written.wrote.shows is_open plan))
+
+pub returns-clause-tidy : goal.returns-clause-tidy
+returns-clause-tidy g c honest s stands is_open fine is_append keeps =
+    let old = c.args.store.now in
+    let n = c.args.job in
+    let t = found_there g.D.Disk.state s n old is_append in
+    let waits = wait g.D.Disk.state old s stands is_open n t.x t.a t.there t.is in
+    let same_root = c.in_ok-table.ensures.same in
+    let root = root_of c.in_ok-table.table in
+    let told = c.in_ok-waiting.ensures.told ∙ ap (λ js. completed_buffers c.stored.result.now (waiting_at (job_at n js))) c.as_slice.ensures.value in
+    let here = buffers_at g.D.Disk.state old s stands is_open n t root same_root c.stored.result.now (map key_rows_view c.in_ok-waiting.waiting.items) c.stored.ensures told in
+    let seen = subst (λ (xs : List CodeKeyRows). AreBuffers root.schema root.keys (map key_rows_view xs) (whole_at g.D.Disk.state old s stands is_open n t root same_root)) (sym c.as_slice-2.ensures.value) here in
+    let holds = subst (λ (rs : List Row). HoldGroups s.table.keys s.options.group_rows (stored_of (root_of old.manifest)) rs c.in_ok-gathered.gathered.items) (append-nil waits)
+    (groups_here g.D.Disk.state old s stands is_open n t root same_root old.options.group_rows [] c.in_ok-gathered.gathered.items refl (c.in_ok-gathered.ensures.groups (whole_at g.D.Disk.state old s stands is_open n t root same_root) seen)) in
+    let all_fine = subst (λ (rs : List Row). AreFine s rs) (append-nil waits) (fine_at g.D.Disk.state old s stands is_open n t root same_root [] tt) in
+    let begun = starts g.D.Disk.state old s stands is_open n t.x t.a t.there t.is in
+    let mid = c.write_groups.new.store in
+    let filled = c.in_ok-rests.ensures.writes honest old s waits is_open all_fine holds begun stands.shows.next_group in
+    c.in_ok-commit_version.ensures.tidy (c.in_ok-rests.ensures.honest.0 honest) _ filled.written.wrote.shows is_open (ap (λ (x : Core g.row.D.Denot). x.keeps) c.in_ok-rests.ensures.same ∙ keeps)

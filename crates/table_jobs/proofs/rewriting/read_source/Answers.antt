@@ -1,9 +1,10 @@
-use Rattle.std.proofs.Common.{Bool, Err, sym, ◌∙◌, ap, subst}
+use Rattle.std.proofs.Common.{◌≡◌, Bool, Some, None, Err, sym, ◌∙◌, ap, subst}
 use Rattle.std.specs.Prelude.{is_some}
 use Rattle.std.specs.Vec.{with_items}
 use Rattle.bits.specs.declared.refusal.Refusal.{Refusal}
 use Rattle.vault.proofs.Chained.{refused}
-use Rattle.manifest.specs.Groups.{group_view}
+use Rattle.manifest.specs.Groups.{Group as FileGroup, group_view, root_of}
+use Rattle.scan.specs.Absent.{Lacks}
 use Rattle.table.specs.Calls.{step_rewrite, more}
 use Rattle.table.specs.Views.{answered}
 use Rattle.table_reads.specs.Stepping.{next_at}
@@ -62,3 +63,20 @@ returns-in_ok-push_read-in-Some-clause-acts g c honest s stands is_open fine =
     (put_back n kept.0 old.jobs.len old.jobs.items c.as_mut_slice.result.now c.push_read.new.jobs _ old.jobs.ok.0 c.as_mut_slice.ensures.value kept.1)
     read.rows rows_are kept.2 c.is_some.result
     (c.is_some.ensures ∙ some_mapped (λ x. group_view x.now) c.next_source-in-Some.result ∙ ap is_some (c.next_source-in-Some.ensures ∙ ap (λ js. next_at (job_at n js)) c.as_slice-in-Some.ensures.value))
+
+pub returns-in-None-clause-absent : goal.returns-in-None-clause-absent
+returns-in-None-clause-absent g c honest lacks =
+    let old = c.args.store.now in
+    let n = c.args.job in
+    let none = next_none n c.next_source.result (λ x. group_view x.now) c.as_slice.result.now old.jobs.items c.in-None.is c.next_source.ensures c.as_slice.ensures.value in
+    let both : None ≡ Some lacks.source = sym none ∙ lacks.next in
+    absurd (cc)
+
+pub returns-in_ok-push_read-in-Some-clause-absent : goal.returns-in_ok-push_read-in-Some-clause-absent
+returns-in_ok-push_read-in-Some-clause-absent g c honest lacks =
+    let old = c.args.store.now in
+    let n = c.args.job in
+    let next = next_some n c.next_source.result c.in-Some.group (λ x. group_view x.now) c.as_slice.result.now old.jobs.items c.in-Some.is c.next_source.ensures c.as_slice.ensures.value in
+    let both : Some (group_view c.in-Some.group.now) ≡ Some lacks.source = sym next ∙ lacks.next in
+    let same : lacks.source ≡ group_view c.in-Some.group.now = cc in
+    c.in_ok-rows-in-Some.ensures.absent honest lacks.keyed (subst (λ (x : FileGroup). Lacks (g.D.Disk.state old.vault.disk) (root_of old.manifest).keys (root_of old.manifest).schema x) same lacks.lacks)

@@ -92,3 +92,14 @@ returns-clause-cause g c honest s r stands is_open low at some =
     let all = ap (λ (ns : List ℕ). list_all (is_among (numbers_of (root_of old.manifest).groups)) ns) (sym c.as_slice-3.ensures.value) ∙ ap (λ (gs : List FileGroup). list_all (is_among (numbers_of gs)) c.as_slice-3.result.now) (sym c.groups.ensures.are) ∙ sym c.in_ok-has_all.ensures.all in
     let fine = fault_is g.D.Disk.state old s stands is_open n r at low true c.in_ok-numbers.numbers.items numbers (all ∙ c.if-not-branch.false) in
     c.commit_runs.ensures.cause honest s r stands is_open at some (ap (λ (xs : List Sources). sources_view xs) c.as_slice-4.ensures.value ∙ told) fine
+
+pub returns-clause-tidy : goal.returns-clause-tidy
+returns-clause-tidy g c honest s r stands is_open low at some keeps =
+    let old = c.args.store.now in
+    let n = c.args.job in
+    let runs = sources_view c.in_ok-runs.runs.items in
+    let told : runs ≡ sources_view r.runs.items = c.in_ok-runs.ensures.told ∙ ap (λ (js : List OpenJob). runs_at (job_at n js)) c.as_slice.ensures.value ∙ runs_told n old.jobs.items r at in
+    let numbers = c.in_ok-numbers.ensures.told ∙ ap (λ (xs : List Sources). numbers_of_runs (sources_view xs)) c.as_slice-2.ensures.value ∙ ap numbers_of_runs told in
+    let all = ap (λ (ns : List ℕ). list_all (is_among (numbers_of (root_of old.manifest).groups)) ns) (sym c.as_slice-3.ensures.value) ∙ ap (λ (gs : List FileGroup). list_all (is_among (numbers_of gs)) c.as_slice-3.result.now) (sym c.groups.ensures.are) ∙ sym c.in_ok-has_all.ensures.all in
+    let fine = fault_is g.D.Disk.state old s stands is_open n r at low true c.in_ok-numbers.numbers.items numbers (all ∙ c.if-not-branch.false) in
+    c.commit_runs.ensures.tidy honest s r stands is_open at some (ap (λ (xs : List Sources). sources_view xs) c.as_slice-4.ensures.value ∙ told) fine keeps

@@ -201,3 +201,12 @@ returns-clause-acts g c honest s r stands is_open at some told fine =
     subst (λ (k : ℕ). ActsFrom state old new (commit n) (done k) s) (sym counted)
     (done_so state old s stands is_open n r at fine some mid files made h same next falls above least gs placed new
     (c.in_ok-commit_version.ensures.turns (c.in_ok-made.ensures.honest.0 honest) _ _ (ended_at n s.jobs) h.written.wrote.shows is_open plan))
+
+pub returns-clause-tidy : goal.returns-clause-tidy
+returns-clause-tidy g c honest s r stands is_open at some told fine keeps =
+    let old = c.args.store.now in
+    let state = g.D.Disk.state in
+    let has = starts state old s stands is_open c.args.job r (held state old s stands is_open c.args.job r at) in
+    let are = all_runs state old s stands is_open c.args.job r at fine (sources_view c.args.runs.now) told in
+    let h = c.in_ok-made.ensures.rewrites honest old s _ is_open refl stands.shows.next_group c.new-written.ensures.items has are in
+    c.in_ok-commit_version.ensures.tidy (c.in_ok-made.ensures.honest.0 honest) _ h.written.wrote.shows is_open (ap (λ (x : Core g.row.D.Denot). x.keeps) c.in_ok-made.ensures.same ∙ keeps)

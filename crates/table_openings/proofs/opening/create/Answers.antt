@@ -18,7 +18,7 @@ returns-in-Ok-put_new-clause-created g c honest keys named room =
     stands_so g.D.Disk.state c.started.result c.args.options c.put_new.new.vault first c.started.ensures.vault c.started.ensures.manifest
     (c.started.ensures.started (versions_are c.args.schema found first (c.in-Ok-put_new.ensures.made before).is)) c.args.schema found keys (sym same) (c.in-Ok-put_new.ensures.made before)
     c.paths_are_apart.ensures.apart c.a_root_means_one_table.ensures c.rows_of_parts_fit.ensures c.in-Ok-put_new.ensures.in_range (c.put_new.ensures.room before room_before)
-    ((g.met.D.Disk.lawful c.started.result.vault.disk).seen_may_stay now)
+    ((g.met.D.Disk.lawful c.started.result.vault.disk).seen_may_stay now) c.started.ensures.clean
 
 pub returns-in-Ok-put_new-clause-moments : goal.returns-in-Ok-put_new-clause-moments
 returns-in-Ok-put_new-clause-moments g c honest keys named room none =

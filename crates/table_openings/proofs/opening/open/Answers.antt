@@ -1,6 +1,7 @@
-use Rattle.std.proofs.Common.{sym, subst, inl}
+use Rattle.std.proofs.Common.{refl, sym, subst, inl}
 use Rattle.bits.specs.declared.refusal.Refusal.TheVariants.{Limit}
 use Rattle.table_openings.specs.Opening.{HasRoomForAll, LeavesTables}
+use Rattle.table_commits.proofs.NeededFiles.{clean_is_tidy}
 use Rattle.table_openings.proofs.AfterOpenings.{leaves_tables, room_for_all, moments_at, clear_at, found_so, cleans_at, is_clean, nothing_left, nothing_changed, cleaned_poor}
 use Rattle.table_openings.proofs.opening.open.Goals as goal
 
@@ -16,6 +17,19 @@ returns-in-Ok-first_versions-clause-found g c honest sound room =
     (opened.moments honest sound) sound room (opened.clear honest) c.tables_are_one.ensures c.args.options (c.started.ensures.started c.in-Ok-first_versions.ensures.are)
     c.paths_are_apart.ensures.apart c.a_root_means_one_table.ensures c.rows_of_parts_fit.ensures (c.is_out_of_range.ensures.within c.if-is_out_of_range.false)
     (opened.sound honest sound) (opened.describes honest sound) ((g.met.D.Disk.lawful disk).seen_may_stay now)
+    (is_clean g.D.Disk.state c.started.result c.in-Ok.vault c.in-Ok.manifest c.in-Ok.has_fault c.started.ensures.vault c.started.ensures.manifest c.started.ensures.clean (opened.clean honest))
+
+pub returns-in-Ok-first_versions-clause-tidy : goal.returns-in-Ok-first_versions-clause-tidy
+returns-in-Ok-first_versions-clause-tidy g c honest sound room clean =
+    let opened = c.in-Ok.ensures in
+    let disk = c.started.result.vault.disk in
+    let now = subst (λ v. (g.D.Disk.state v.disk).honest) (sym c.started.ensures.vault) (opened.honest.0 honest) in
+    let cleaned = is_clean g.D.Disk.state c.started.result c.in-Ok.vault c.in-Ok.manifest c.in-Ok.has_fault c.started.ensures.vault c.started.ensures.manifest c.started.ensures.clean (opened.clean honest) in
+    let is = found_so g.D.Disk.state (g.D.Disk.state c.args.disk) c.started.result c.in-Ok.vault c.in-Ok.manifest c.started.ensures.vault c.started.ensures.manifest
+    (opened.moments honest sound) sound room (opened.clear honest) c.tables_are_one.ensures c.args.options (c.started.ensures.started c.in-Ok-first_versions.ensures.are)
+    c.paths_are_apart.ensures.apart c.a_root_means_one_table.ensures c.rows_of_parts_fit.ensures (c.is_out_of_range.ensures.within c.if-is_out_of_range.false)
+    (opened.sound honest sound) (opened.describes honest sound) ((g.met.D.Disk.lawful disk).seen_may_stay now) cleaned in
+    clean_is_tidy g.D.Disk.state c.started.result _ is.stands.shows refl (cleaned clean)
 
 pub returns-in-Ok-first_versions-clause-moments : goal.returns-in-Ok-first_versions-clause-moments
 returns-in-Ok-first_versions-clause-moments g c honest sound room =

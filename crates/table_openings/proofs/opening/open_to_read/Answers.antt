@@ -1,4 +1,5 @@
-use Rattle.std.proofs.Common.{sym, subst}
+use Rattle.std.proofs.Common.{sym, ◌∙◌, subst}
+use Rattle.std.proofs.lemmas.Bool.{false≢true}
 use Rattle.vault.specs.Calls.{LeavesAll}
 use Rattle.table_openings.specs.Opening.{HasRoomForAll, LeavesTables}
 use Rattle.table_commits.proofs.DisksLeftAlone.{all_here}
@@ -19,7 +20,7 @@ returns-in-Ok-first_versions-clause-found g c honest sound room =
     found_so g.D.Disk.state (g.D.Disk.state c.args.disk) c.started.result c.in-Ok.vault c.in-Ok.manifest c.started.ensures.vault c.started.ensures.manifest
     (opened.moments honest sound) sound room (opened.unchanged honest).clear c.tables_are_one.ensures c.args.options (c.started.ensures.started c.in-Ok-first_versions.ensures.are)
     c.paths_are_apart.ensures.apart c.a_root_means_one_table.ensures c.rows_of_parts_fit.ensures (c.is_out_of_range.ensures.within c.if-is_out_of_range.false)
-    (opened.sound honest sound) (opened.describes honest sound) ((g.met.D.Disk.lawful disk).seen_may_stay now)
+    (opened.sound honest sound) (opened.describes honest sound) ((g.met.D.Disk.lawful disk).seen_may_stay now) (λ clean. absurd (false≢true (sym c.started.ensures.clean ∙ clean)))
 
 pub returns-in-Ok-first_versions-clause-moments : goal.returns-in-Ok-first_versions-clause-moments
 returns-in-Ok-first_versions-clause-moments g c honest sound room =

@@ -1,5 +1,6 @@
-use Rattle.std.proofs.Common.{true, refl, inl}
-use Rattle.table_openings.proofs.AfterReopenings.{anew, refused_so}
+use Rattle.std.proofs.Common.{◌≡◌, true, not, refl, inl}
+use Rattle.std.proofs.lemmas.Bool.{not-true as was_clean}
+use Rattle.table_openings.proofs.AfterReopenings.{anew, tidy_anew, refused_so}
 use Rattle.table_openings.proofs.AfterOpenings.{anew_left, anew_cleans, anew_shut}
 use Rattle.table_openings.proofs.reopening.reopen.Goals as goal
 
@@ -8,8 +9,19 @@ returns-in-Ok-clause-acts g c honest s stands =
     let sound = stands.shows.sound.sound in
     let now = (c.in-Ok.ensures.honest).0 honest in
     anew g.D.Disk.state c.args.store.now s stands c.read_again.new.vault (c.in-Ok.ensures.moments honest sound) (c.in-Ok.ensures.sound honest sound) (c.in-Ok.ensures.clear honest)
-    c.in-Ok.manifest (c.in-Ok.ensures.describes honest sound) ((g.met.D.Disk.lawful c.read_again.new.vault.disk).seen_may_stay now) c.tables_are_one.ensures c.rows_of_parts_fit.ensures
-    c.start_anew.result c.start_anew.new.self c.start_anew.ensures.started c.start_anew.ensures.vault c.start_anew.ensures.manifest c.start_anew.ensures.unchanged c.start_anew.ensures.which
+    c.in-Ok.manifest (not c.in-Ok.has_fault) (λ clean. c.in-Ok.ensures.clean honest (was_clean c.in-Ok.has_fault clean)) (c.in-Ok.ensures.describes honest sound) ((g.met.D.Disk.lawful c.read_again.new.vault.disk).seen_may_stay now) c.tables_are_one.ensures c.rows_of_parts_fit.ensures
+    c.start_anew.result c.start_anew.new.self c.start_anew.ensures.started c.start_anew.ensures.vault c.start_anew.ensures.manifest c.start_anew.ensures.clean c.start_anew.ensures.unchanged c.start_anew.ensures.which
+
+pub returns-in-Ok-clause-tidy : goal.returns-in-Ok-clause-tidy
+returns-in-Ok-clause-tidy g c honest s stands =
+    let sound = stands.shows.sound.sound in
+    let now = (c.in-Ok.ensures.honest).0 honest in
+    let clean = λ (e : not c.in-Ok.has_fault ≡ true). c.in-Ok.ensures.clean honest (was_clean c.in-Ok.has_fault e) in
+    tidy_anew g.D.Disk.state c.args.store.now s stands c.read_again.new.vault (c.in-Ok.ensures.moments honest sound) (c.in-Ok.ensures.sound honest sound) (c.in-Ok.ensures.clear honest)
+    c.in-Ok.manifest (not c.in-Ok.has_fault) clean c.start_anew.result c.start_anew.new.self c.start_anew.ensures.started c.start_anew.ensures.vault c.start_anew.ensures.manifest c.start_anew.ensures.clean
+    (anew g.D.Disk.state c.args.store.now s stands c.read_again.new.vault (c.in-Ok.ensures.moments honest sound) (c.in-Ok.ensures.sound honest sound) (c.in-Ok.ensures.clear honest)
+    c.in-Ok.manifest (not c.in-Ok.has_fault) clean (c.in-Ok.ensures.describes honest sound) ((g.met.D.Disk.lawful c.read_again.new.vault.disk).seen_may_stay now) c.tables_are_one.ensures c.rows_of_parts_fit.ensures
+    c.start_anew.result c.start_anew.new.self c.start_anew.ensures.started c.start_anew.ensures.vault c.start_anew.ensures.manifest c.start_anew.ensures.clean c.start_anew.ensures.unchanged c.start_anew.ensures.which)
 
 pub returns-in-Err-clause-acts : goal.returns-in-Err-clause-acts
 returns-in-Err-clause-acts g c honest s stands =

@@ -1,10 +1,10 @@
-use Rattle.std.proofs.Common.{◌≡◌, ℕ, true, List, Result, Err, refl, sym, ◌∙◌, ap, subst}
+use Rattle.std.proofs.Common.{◌≡◌, ℕ, true, List, [], Result, Ok, Err, refl, sym, ◌∙◌, ap, subst}
 use Rattle.bits.specs.declared.refusal.Refusal.{Refusal}
 use Rattle.bits.specs.Refusals.{HasCause}
 use Rattle.schema.specs.Stripe.{leaves_of}
 use Rattle.schema.specs.Shape.{Fields}
 use Rattle.filter.specs.Terms.{terms_view, tests_of}
-use Rattle.manifest.specs.Groups.{Group as FileGroup}
+use Rattle.manifest.specs.Groups.{Group as FileGroup, root_of}
 use Rattle.vault.proofs.Chained.{refused}
 use Rattle.table.specs.Calls.{count, counted}
 use Rattle.table.specs.Views.{answered}
@@ -15,9 +15,11 @@ use Rattle.table_commits.specs.Dropping.{rows_in}
 use Rattle.table_state.specs.Promises.{ActsFrom}
 use Rattle.table_commits.proofs.UnchangedRefusals.{acts_shut}
 use Rattle.table_reads.proofs.CountedRows.{counts_all, count_poor, count_refused, no_terms}
-use Rattle.filter.specs.Test.{tests_in}
+use Rattle.filter.specs.Test.{Test, tests_in}
 use Rattle.table_commits.proofs.GroupRemovals.{memory_so}
-use Rattle.table_reads.proofs.CountingGroups.{table_held, counts_so, count_stopped}
+use Rattle.table_reads.specs.Counting.{AreSpared}
+use Rattle.table_reads.proofs.WholeRows.{no_tests}
+use Rattle.table_reads.proofs.CountingGroups.{table_held, counts_so, count_stopped, spared_all}
 use Rattle.table_reads.proofs.FilesLeftAlone.{same, only_read}
 use Rattle.table_reads.proofs.counting.count.Goals as goal
 
@@ -86,3 +88,19 @@ returns-in_err-found-clause-leaves g c = only_read g.D.Disk.state c.args.store.n
 
 pub returns-clause-leaves : goal.returns-clause-leaves
 returns-clause-leaves g c = only_read g.D.Disk.state c.args.store.now (record c.args.store.now { vault = c.count_rows.new.vault }) c.in_ok-found.ensures.effect.unchanged refl
+
+pub returns-then-is_empty-clause-absent : goal.returns-then-is_empty-clause-absent
+returns-then-is_empty-clause-absent g c honest tests asked =
+    let root = root_of c.args.store.now.manifest in
+    let disk = g.D.Disk.state c.args.store.now.vault.disk in
+    let none = no_tests (leaves_of root.schema) (terms_view c.args.terms.now) tests (no_terms _ c.args.terms.now (sym c.is_empty.ensures ∙ c.if-is_empty.true)) asked.made in
+    subst (λ (ts : List (List Test)). AreSpared disk ts root [] root.groups) (sym none) (spared_all disk root root.groups)
+
+pub returns-clause-absent : goal.returns-clause-absent
+returns-clause-absent g c honest tests asked =
+    let root = root_of c.args.store.now.manifest in
+    let disk = g.D.Disk.state c.args.store.now.vault.disk in
+    let own : tests_of (leaves_of root.schema) (terms_view c.args.terms.now) ≡ Ok (tests_in c.in_ok-filter.filter) = ap (λ (fs : Fields). tests_of (leaves_of fs) (terms_view c.args.terms.now)) (sym c.schema.ensures) ∙ c.in_ok-filter.ensures.made in
+    let both : Ok (tests_in c.in_ok-filter.filter) ≡ Ok tests = sym own ∙ asked.made in
+    let same : tests_in c.in_ok-filter.filter ≡ tests = cc in
+    subst (λ (ts : List (List Test)). AreSpared disk ts root [] root.groups) same (c.in_ok-found.ensures.absent honest (record { over = (terms_view c.args.terms.now, own); keyed = asked.keyed }))

@@ -10,7 +10,7 @@ use Rattle.lists.proofs.Slices.{drop_past as drop_all}
 use Rattle.manifest.specs.declared.group.Group.{Group as CodeGroup}
 use Rattle.manifest.specs.Groups.{Group as FileGroup, group_view, handles_view, root_of}
 use Rattle.table_reads.specs.Counting.{matching}
-use Rattle.table_reads.proofs.CountingGroups.{split_so, tally_on, tally_done, one_held, from_one}
+use Rattle.table_reads.proofs.CountingGroups.{split_so, tally_on, tally_done, spared_done, one_held, from_one}
 use Rattle.scan.specs.Faults.{IsDevice}
 use Rattle.table.specs.Table.{Group}
 use Rattle.table_reads.specs.Reading.{OnlyReads}
@@ -63,6 +63,7 @@ loop-group-preserved g c =
     ∙ ap (λ (x : FileGroup). (x ∷ []) ++ handles_view (drop (i + 1) c.args.groups.now)) (sym (ap group_view c.deref.ensures)) in
     tally_on tests root old (handles_view c.args.groups.now) mid _ c.loop-group.found so_far (group_view c.deref.result.now ∷ []) _ are new c.in_ok-here.here c.in_ok-found.found c.in_ok-here.here c.in_ok-here.ensures.effect
     (λ fine gs k. one_held mid tests root f (λ (xs : List Group). c.in_ok-here.here ≡ matching tests xs) (λ x y. c.in_ok-here.ensures.stands fine x y) gs k)
+    (λ fine can. ((λ lacks. c.in_ok-here.ensures.absent fine can lacks), tt))
     c.in_ok-found.ensures.summed
 
 pub returns-clause-stands : goal.returns-clause-stands
@@ -74,3 +75,11 @@ returns-clause-stands g c honest held h =
     let so_far = c.loop-group.invariant in
     let i = c.loop-group.group-index in
     tally_done tests root old (handles_view c.args.groups.now) mid _ c.loop-group.found so_far (ap handles_view (drop_all c.args.groups.now i c.loop-group-test.false)) honest held h
+
+pub returns-clause-absent : goal.returns-clause-absent
+returns-clause-absent g c honest can =
+    let old = g.D.Disk.state c.args.vault.now.disk in
+    let mid = g.D.Disk.state c.loop-group.vault.disk in
+    let tests = tests_in c.args.filter.now in
+    let root = root_of c.args.table.now in
+    spared_done tests root old (handles_view c.args.groups.now) mid _ c.loop-group.found c.loop-group.invariant (ap handles_view (drop_all c.args.groups.now c.loop-group.group-index c.loop-group-test.false)) honest can

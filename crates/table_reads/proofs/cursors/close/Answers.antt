@@ -5,7 +5,7 @@ use Rattle.table.specs.Views.{answered}
 use Rattle.table_state.specs.Lookups.{cursor_at}
 use Rattle.table_state.specs.Promises.{ActsFrom}
 use Rattle.table_commits.proofs.UnchangedRefusals.{acts_shut}
-use Rattle.table_reads.proofs.SomethingEnds.{not_there, is_there}
+use Rattle.table_reads.proofs.SomethingEnds.{not_there, is_there, cursor_ended}
 use Rattle.table_reads.proofs.AbortsAndCloses.{no_cursor, close_refused, is_closed}
 use Rattle.table_reads.proofs.FilesLeftAlone.{same, still, still_by}
 use Rattle.table_reads.proofs.cursors.close.Goals as goal
@@ -46,3 +46,9 @@ returns-in_err-step-clause-leaves g c k = still g.D.Disk.state c.args.store.now 
 
 pub returns-clause-leaves : goal.returns-clause-leaves
 returns-clause-leaves g c k = still_by g.D.Disk.state c.args.store.now c.let_go.new.store _ (c.let_go.ensures.keeps k) refl refl
+
+pub returns-clause-tidy : goal.returns-clause-tidy
+returns-clause-tidy g c honest s stands keeps =
+    let is_open = sym stands.shows.closed ∙ c.if-store.false in
+    let shown = cursor_ended g.D.Disk.state c.args.store.now s stands is_open c.args.cursor c.step.new.self c.in_ok-step.ensures.done c.end_cursor.new.cursors c.end_cursor.ensures in
+    c.let_go.ensures.tidy honest (shown.shown is_open).tracked keeps

@@ -1,4 +1,5 @@
 use Rattle.std.proofs.Common.{ℕ, List, Result, Err, refl, ◌∙◌, ap}
+use Rattle.std.specs.Vec.{with_items}
 use Rattle.bits.specs.declared.refusal.Refusal.{Refusal}
 use Rattle.bits.specs.declared.refusal.Refusal.TheVariants.{Closed, NoCursor}
 use Rattle.vault.proofs.Chained.{refused}
@@ -6,7 +7,8 @@ use Rattle.table.specs.declared.answer.Fetched.{Fetched}
 use Rattle.table.specs.declared.answer.Fetched.TheVariants as fetched
 use Rattle.table.specs.Calls.{fetch}
 use Rattle.table.specs.Views.{answered, fetched_view}
-use Rattle.table_reads.specs.Passing.{FetchReads, batches_with}
+use Rattle.table_reads.specs.Passing.{FetchReads, FetchesAbsent, batches_with, rows_fetched}
+use Rattle.table_reads.proofs.AbsentFiles.{absent_over, absent_went, fetched_same}
 use Rattle.table_reads.proofs.MovedCursors.{written_back}
 use Rattle.table.specs.History.{next_answer}
 use Rattle.table_state.specs.Promises.{ActsFrom}
@@ -108,3 +110,27 @@ returns-in_err-fetched-in-Some-clause-leaves g c = only_read g.D.Disk.state c.ar
 
 pub returns-in_ok-fetched-in-Some-clause-leaves : goal.returns-in_ok-fetched-in-Some-clause-leaves
 returns-in_ok-fetched-in-Some-clause-leaves g c = only_read g.D.Disk.state c.args.store.now _ c.in_ok-reached-in-Some.ensures.effect.unchanged refl
+
+pub returns-then-open-clause-absent : goal.returns-then-open-clause-absent
+returns-then-open-clause-absent g c =
+    absent_over g.D.Disk.state c.args.store.now c.args.cursor c.in-Some.open.now
+    (at_of c.args.cursor c.find_cursor.result c.in-Some.open (λ x. x.now) c.as_slice.result.now c.args.store.now.cursors.items c.in-Some.is c.find_cursor.ensures c.as_slice.ensures.value) rows_fetched fetched.End c.if-open.true
+
+pub returns-in_err-reached-in-Some-clause-absent : goal.returns-in_err-reached-in-Some-clause-absent
+returns-in_err-reached-in-Some-clause-absent g c =
+    refused (λ (r : Result (Fetched) Refusal). FetchesAbsent g.D.Disk.state rows_fetched c.args.store.now (record c.args.store.now { vault = c.next_rows.new.vault }) c.args.cursor r) c.from_residual.result c.in_err-reached-in-Some.field-0.0 c.from_residual.ensures.1 tt
+
+pub returns-in_err-fetched-in-Some-clause-absent : goal.returns-in_err-fetched-in-Some-clause-absent
+returns-in_err-fetched-in-Some-clause-absent g c =
+    refused (λ (r : Result (Fetched) Refusal). FetchesAbsent g.D.Disk.state rows_fetched c.args.store.now (record c.args.store.now { vault = c.next_rows.new.vault }) c.args.cursor r) c.from_residual-in_err-fetched-in-Some.result c.in_err-fetched-in-Some.field-0.0 c.from_residual-in_err-fetched-in-Some.ensures.1 tt
+
+pub returns-in_ok-fetched-in-Some-clause-absent : goal.returns-in_ok-fetched-in-Some-clause-absent
+returns-in_ok-fetched-in-Some-clause-absent g c =
+    let old = c.args.store.now in
+    let at = at_of c.args.cursor c.find_cursor.result c.in-Some.open (λ x. x.now) c.as_slice.result.now old.cursors.items c.in-Some.is c.find_cursor.ensures c.as_slice.ensures.value in
+    let reached = c.in_ok-reached-in-Some.reached in
+    let rows = c.in_ok-reached-in-Some.ensures.accepted in
+    absent_went g.D.Disk.state old c.args.cursor c.in-Some.open.now at rows_fetched c.next_rows.new.vault (with_items old.cursors c.move_cursor.new.cursors) reached.passed c.is_none-ended.result c.in_ok-fetched-in-Some.fetched reached.rows
+    (written_back c.args.cursor reached.passed c.is_none-ended.result old.cursors.len old.cursors.items c.as_mut_slice.result.now c.move_cursor.new.cursors _ old.cursors.ok.0 c.as_mut_slice.ensures.value c.move_cursor.ensures)
+    (fetched_same c.as_slice-in-Some.result.now reached.rows c.in_ok-fetched-in-Some.fetched rows.0 rows.1 (c.in_ok-fetched-in-Some.ensures.made rows.0 rows.1))
+    c.in_ok-reached-in-Some.ensures.absent

@@ -1,11 +1,13 @@
 use Rattle.std.proofs.Common.{ℕ, List, Option, None, Result, refl, sym, subst}
+use Rattle.std.specs.Vec.{with_items}
 use Rattle.bits.specs.declared.refusal.Refusal.{Refusal}
 use Rattle.bits.specs.declared.refusal.Refusal.TheVariants.{Closed, NoCursor}
 use Rattle.vault.proofs.Chained.{refused}
 use Rattle.table.specs.Calls.{Answer, fetch, ended, refused as refused_by}
 use Rattle.table_reads.specs.declared.passing.FetchedRows.{FetchedRows}
-use Rattle.table_reads.specs.Passing.{FetchReads}
+use Rattle.table_reads.specs.Passing.{FetchReads, FetchesAbsent}
 use Rattle.table_reads.specs.Shown.{AreShown, IsShownAs}
+use Rattle.table_reads.proofs.AbsentFiles.{absent_over, absent_went, shown_same}
 use Rattle.table_reads.proofs.MovedCursors.{written_back}
 use Rattle.table_state.specs.Promises.{Acts, ActsFrom}
 use Rattle.table_commits.proofs.UnchangedRefusals.{acts_shut}
@@ -133,3 +135,26 @@ returns-in_err-fetched-in-Some-clause-leaves g c = only_read g.D.Disk.state c.ar
 
 pub returns-in_ok-fetched-in-Some-clause-leaves : goal.returns-in_ok-fetched-in-Some-clause-leaves
 returns-in_ok-fetched-in-Some-clause-leaves g c = only_read g.D.Disk.state c.args.store.now _ c.in_ok-reached-in-Some.ensures.effect.unchanged refl
+
+pub returns-then-open-clause-absent : goal.returns-then-open-clause-absent
+returns-then-open-clause-absent g c =
+    absent_over g.D.Disk.state c.args.store.now c.args.cursor c.in-Some.open.now
+    (at_of c.args.cursor c.find_cursor.result c.in-Some.open (λ x. x.now) c.as_slice.result.now c.args.store.now.cursors.items c.in-Some.is c.find_cursor.ensures c.as_slice.ensures.value) (λ (rows : Option FetchedRows). rows) None c.if-open.true
+
+pub returns-in_err-reached-in-Some-clause-absent : goal.returns-in_err-reached-in-Some-clause-absent
+returns-in_err-reached-in-Some-clause-absent g c =
+    refused (λ (r : Result (Option FetchedRows) Refusal). FetchesAbsent g.D.Disk.state (λ (rows : Option FetchedRows). rows) c.args.store.now (record c.args.store.now { vault = c.next_rows.new.vault }) c.args.cursor r) c.from_residual.result c.in_err-reached-in-Some.field-0.0 c.from_residual.ensures.1 tt
+
+pub returns-in_err-fetched-in-Some-clause-absent : goal.returns-in_err-fetched-in-Some-clause-absent
+returns-in_err-fetched-in-Some-clause-absent g c =
+    refused (λ (r : Result (Option FetchedRows) Refusal). FetchesAbsent g.D.Disk.state (λ (rows : Option FetchedRows). rows) c.args.store.now (record c.args.store.now { vault = c.next_rows.new.vault }) c.args.cursor r) c.from_residual-in_err-fetched-in-Some.result c.in_err-fetched-in-Some.field-0.0 c.from_residual-in_err-fetched-in-Some.ensures.1 tt
+
+pub returns-in_ok-fetched-in-Some-clause-absent : goal.returns-in_ok-fetched-in-Some-clause-absent
+returns-in_ok-fetched-in-Some-clause-absent g c =
+    let old = c.args.store.now in
+    let at = at_of c.args.cursor c.find_cursor.result c.in-Some.open (λ x. x.now) c.as_slice.result.now old.cursors.items c.in-Some.is c.find_cursor.ensures c.as_slice.ensures.value in
+    let reached = c.in_ok-reached-in-Some.reached in
+    absent_went g.D.Disk.state old c.args.cursor c.in-Some.open.now at (λ (rows : Option FetchedRows). rows) c.next_rows.new.vault (with_items old.cursors c.move_cursor.new.cursors) reached.passed c.is_none-ended.result c.in_ok-fetched-in-Some.fetched reached.rows
+    (written_back c.args.cursor reached.passed c.is_none-ended.result old.cursors.len old.cursors.items c.as_mut_slice.result.now c.move_cursor.new.cursors _ old.cursors.ok.0 c.as_mut_slice.ensures.value c.move_cursor.ensures)
+    (shown_same c.as_slice-in-Some.result.now reached.rows c.in_ok-fetched-in-Some.fetched c.in_ok-fetched-in-Some.ensures.made)
+    c.in_ok-reached-in-Some.ensures.absent

@@ -5,6 +5,7 @@ use Rattle.schema.specs.Keys.{AreKeys, key_columns_view}
 use Rattle.schema.specs.Values.{ValueTrees}
 use Rattle.filter.specs.Test.{tests_in}
 use Rattle.manifest.specs.Groups.{group_view, root_of}
+use Rattle.scan.specs.Absent.{Lacks, MayLack}
 use Rattle.scan.specs.Faults.{IsDevice}
 use Rattle.scan.specs.Selected.{IsOver, Holds, AreSelected}
 use Rattle.snapshots.specs.State.{group_in, version_at}
@@ -31,6 +32,14 @@ returns-in-Some-clause-only g c honest are f rows there holds =
     (found c.group_at.result c.in-Some.group (λ x. group_view x.now) (group_in (version_at (state_of c.args.snapshots.now) (Some c.args.cursor.now.number)) c.args.place) f c.in-Some.is c.group_at.ensures there) c.as_slice.ensures.value
     (λ k z. c.read.ensures.only honest k rows z) are holds
 
+pub returns-in-Some-clause-absent : goal.returns-in-Some-clause-absent
+returns-in-Some-clause-absent g c honest can f there lacks =
+    let root = root_of c.args.cursor.now.table in
+    all_same (λ ks fs x ps. IsOver (tests_in c.args.cursor.now.filter) fs → AreKeys ks fs → Lacks (g.D.Disk.state c.args.vault.now.disk) ks fs x → IfOk c.read.result (MayLack (tests_in c.args.cursor.now.filter) ks fs x ps))
+    (key_columns_view c.keys.result.now) root.keys c.schema.result.now root.schema (group_view c.in-Some.group.now) f c.as_slice.result.now c.args.cursor.now.places.items c.keys.ensures.are c.schema.ensures
+    (found c.group_at.result c.in-Some.group (λ x. group_view x.now) (group_in (version_at (state_of c.args.snapshots.now) (Some c.args.cursor.now.number)) c.args.place) f c.in-Some.is c.group_at.ensures there) c.as_slice.ensures.value
+    (λ o k l. c.read.ensures.absent honest o k l) can.over can.keyed lacks
+
 pub returns-in-Some-clause-reads : goal.returns-in-Some-clause-reads
 returns-in-Some-clause-reads g c f there =
     let root = root_of c.args.cursor.now.table in
@@ -44,6 +53,9 @@ returns-in-Some-clause-missing g c none = absurd (is_missing c.group_at.result c
 
 pub returns-in-None-clause-stands : goal.returns-in-None-clause-stands
 returns-in-None-clause-stands g c honest over are f rows there holds = tt
+
+pub returns-in-None-clause-absent : goal.returns-in-None-clause-absent
+returns-in-None-clause-absent g c honest can f there lacks = tt
 
 pub returns-in-None-clause-only : goal.returns-in-None-clause-only
 returns-in-None-clause-only g c honest are f rows there holds = absurd (not_found c.group_at.result (λ x. group_view x.now) (group_in (version_at (state_of c.args.snapshots.now) (Some c.args.cursor.now.number)) c.args.place) f c.in-None.is c.group_at.ensures there)

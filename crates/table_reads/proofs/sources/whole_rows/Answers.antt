@@ -7,17 +7,20 @@ use Rattle.schema.specs.declared.row.Row.{Row as CodeRow}
 use Rattle.schema.specs.Shape.{Fields}
 use Rattle.schema.specs.Stripe.{leaves_of}
 use Rattle.schema.specs.Views.{rows_view}
-use Rattle.schema.specs.Keys.{KeyColumn, AreKeys}
+use Rattle.schema.specs.Keys.{KeyColumn, AreKeys, key_columns_view}
+use Rattle.schema.specs.Law.{IsSchema}
 use Rattle.vault.proofs.Chained.{refused}
 use Rattle.filter.specs.Test.{tests_in}
 use Rattle.manifest.specs.Groups.{group_view, root_of}
+use Rattle.scan.specs.Absent.{Lacks, MayLackRows}
 use Rattle.scan.specs.Faults.{IsDevice}
 use Rattle.scan.specs.Selected.{IsOver, Holds}
 use Rattle.table_reads.specs.Reading.{OnlyReads}
 use Rattle.table_commits.proofs.GroupRemovals.{memory_only}
 use Rattle.table_reads.proofs.ReadsOfPassedGroups.{reading_here, reading_poor}
 use Rattle.table_reads.proofs.CountingGroups.{held_there}
-use Rattle.table_reads.proofs.WholeRows.{no_tests, filter_poor, whole_so}
+use Rattle.table_reads.proofs.GroupsAtPlaces.{all_same}
+use Rattle.table_reads.proofs.WholeRows.{no_tests, filter_poor, whole_so, whole_never}
 use Rattle.table.specs.Cursors.{wanted_places}
 use Rattle.table_reads.proofs.sources.whole_rows.Goals as goal
 
@@ -64,3 +67,17 @@ returns-clause-stands g c honest held h =
     let holds = subst (λ (ks : List KeyColumn). Holds disk ks c.schema-3.result.now f held.rows) (sym c.keys.ensures.are) (subst (λ (fs : Fields). Holds disk root.keys fs f held.rows) (sym c.schema-3.ensures) (held_there disk [] root f held h)) in
     let all = c.as_slice.ensures.value ∙ c.in_ok-places.ensures.made ∙ ap (λ (fs : Fields). wanted_places None 0 fs) (c.fields.ensures ∙ c.schema-2.ensures) in
     whole_so disk root f held tests c.as_slice.result.now (rows_view c.in_ok-rows.rows.items) none all h (c.in_ok-rows.ensures.stands honest over keyed held.rows holds)
+
+pub returns-clause-absent : goal.returns-clause-absent
+returns-clause-absent g c honest keyed lacks =
+    let disk = g.D.Disk.state c.args.vault.now.disk in
+    let root = root_of c.args.table.now in
+    let f = group_view c.args.group.now in
+    let tests = tests_in c.in_ok-filter.filter in
+    let none : tests ≡ [] = no_tests (leaves_of c.schema.result.now) [] tests refl c.in_ok-filter.ensures.made in
+    let all = c.as_slice.ensures.value ∙ c.in_ok-places.ensures.made ∙ ap (λ (fs : Fields). wanted_places None 0 fs) (c.fields.ensures ∙ c.schema-2.ensures) in
+    let schema = subst IsSchema c.schema-4.ensures c.leaves.ensures.valid in
+    let may = all_same (λ ks fs x ps. AreKeys ks fs → Lacks disk ks fs x → MayLackRows tests ks fs x ps (rows_view c.in_ok-rows.rows.items))
+    (key_columns_view c.keys.result.now) root.keys c.schema-3.result.now root.schema f f c.as_slice.result.now (wanted_places None 0 root.schema) c.keys.ensures.are c.schema-3.ensures refl all
+    (λ k l. c.in_ok-rows.ensures.absent honest (subst (λ ts. IsOver ts c.schema-3.result.now) (sym none) ([], refl)) k l) keyed lacks in
+    whole_never disk root f tests (rows_view c.in_ok-rows.rows.items) none schema keyed lacks may
