@@ -38,14 +38,20 @@ class Function(NamedTuple):
             return False
         if found[1] == self.file:
             return self.first <= int(found[2]) <= self.last
-        module = re.escape(self.file.removeprefix("src/").removesuffix(".rt"))
-        module = "" if module in ("lib", "main") else f"{module}/"
-        return bool(re.match(rf"proofs/{module}(?:\S+/)?{re.escape(self.name)}/", found[1]))
+        folders = found[1].split("/")[:-1]
+        # Functions that call one another have one proof, whose goals begin with their names.
+        if folders[-1].startswith("+"):
+            return f"`{self.name}-" in told
+        return folders[0] == "proofs" and folders[-1] == self.name and self.owners() <= set(folders)
+
+    def owners(self) -> set[str]:
+        """The modules and the type that a function stands in, as `--only` takes them."""
+        return set(self.path.split("::")) - {self.name}
 
     def has_verdict(self, told: str) -> bool:
         """Whether `fn TOLD: ..` is of this function, or of one of its name in the file."""
         parts = told.split("::")
-        return parts[-1] == self.name and set(self.path.split("::")) - {self.name} <= set(parts)
+        return parts[-1] == self.name and self.owners() <= set(parts)
 
 
 class Span(NamedTuple):
