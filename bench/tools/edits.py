@@ -1,6 +1,7 @@
 """Tries must-fail edits and keeps what they came to, for bench/tools/edits.sh, which says how.
 
     edits.py TOP ROOM --text
+    edits.py TOP ROOM --counts [--results FILE]
     edits.py TOP ROOM [--results FILE] [--minutes N] [--most N] [--anew] [CRATE]...
 """
 
@@ -33,6 +34,9 @@ OUTCOMES = (
 # A refusal by a limit of the prover is one. An edit that only takes a name away from a proof file
 # says nothing of the contract.
 PASSED = ("refused", "limit")
+# Where an edit was refused, by what its goal says; the first that fits. Otherwise it is an overflow,
+# or what the called function requires.
+PLACES = (("clause", together.RETURNS), ("loop", re.compile(r"`(\w+-)?loop-")))
 # So many edits are tried in one check, which holds what it says of each in memory.
 MOST_TOGETHER = 12
 
@@ -146,6 +150,28 @@ def write_results(file: Path, results: dict[tuple[str, str], Result]) -> None:
     new.replace(file)
 
 
+def place_of(result: Result) -> str:
+    """Where an edit was refused: at a clause, at the invariant of a loop, or at a call."""
+    return next((what for what, goal in PLACES if goal.search(result.goal)), "call")
+
+
+def print_counts(tree: Tree, results: dict[tuple[str, str], Result]) -> int:
+    """Prints for each crate how many edits it has, and how many were refused at which place."""
+    rows: dict[str, collections.Counter[str]] = {}
+    for edit in tree.edits():
+        row = rows.setdefault(edit.crate, collections.Counter())
+        row["edits"] += 1
+        found = results.get((edit.crate, edit.name))
+        if found and found.digest == tree.digest(edit) and found.outcome in PASSED:
+            row.update(["refused", place_of(found)])
+    columns = ("edits", "refused", "clause", "loop", "call")
+    print("".join(f"{it:>9}" for it in columns), " crate")
+    rows["all"] = sum(rows.values(), collections.Counter())
+    for crate, row in rows.items():
+        print("".join(f"{row[it]:9}" for it in columns), f" {crate}")
+    return int(rows["all"]["refused"] < rows["all"]["edits"])
+
+
 def result_of(tree: Tree, edit: Edit, said: str) -> Result:
     """What `rt` said of an edit."""
     outcome = next((what for words, what in OUTCOMES if said.startswith(words)), "unknown")
@@ -252,6 +278,7 @@ class Trial:
 def words_of(words: list[str]) -> argparse.Namespace:
     parser = argparse.ArgumentParser(description=__doc__, add_help=False)
     parser.add_argument("--text", action="store_true")
+    parser.add_argument("--counts", action="store_true")
     parser.add_argument("--results", type=Path)
     parser.add_argument("--minutes", type=float, default=float("inf"))
     parser.add_argument("--most", type=int, default=sys.maxsize)
@@ -268,14 +295,16 @@ def main(words: list[str]) -> int:
     tree = Tree(top)
     if given.text:
         return check_texts(tree)
+    file = given.results or top / "bench/tools/edits/results.tsv"
+    results = read_results(file)
+    if given.counts:
+        return print_counts(tree, results)
     having = {it.crate for it in tree.edits()}
     for crate in given.crates:
         if crate not in having:
             print(f"edits.sh: bench/tools/edits has none of {crate}", file=sys.stderr)
             return 1
-    file = given.results or top / "bench/tools/edits/results.tsv"
-    results, begun = read_results(file), time.monotonic()
-    trial = Trial(top, room)
+    trial, begun = Trial(top, room), time.monotonic()
     outcomes: collections.Counter[str] = collections.Counter()
     for crate in given.crates or sorted(having):
         edits = [it for it in trial.tree.edits() if it.crate == crate]

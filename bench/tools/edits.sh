@@ -2,6 +2,7 @@
 # Tries the must-fail edits that the gate leaves out, those of bench/tools/edits: the prover must refuse each.
 #
 #     bench/tools/edits.sh --text              only whether each edit, also of the gate, still applies to the sources
+#     bench/tools/edits.sh --counts            how many edits of each crate were refused, and where, by the results
 #     bench/tools/edits.sh [OPTION].. [CRATE]..     tries those of these crates, or of all
 #
 # What each edit came to is kept in bench/tools/edits/results.tsv, as soon as its crate is done: the crate, the edit, the outcome, the
@@ -22,7 +23,7 @@ top=$(CDPATH='' cd -- "$(dirname -- "$0")/../.." && pwd) || exit 1
 . "$top/prebuilt/sources.sh"
 case $1 in -h | --help) usage ;; esac
 needs python3
-[ "$*" = --text ] || needs rt git
+case $* in --text | --counts*) ;; *) needs rt git ;; esac
 make_room
 python3 -B "$top/bench/tools/edits.py" "$top" "$room" "$@"
 status=$?

@@ -20,6 +20,9 @@ TOLD = re.compile(r"(?:note: )?(?:\./)?((?:src|specs|proofs)/\S+?):(\d+):\d+: ")
 # A proof file that names what the edit took away, and one that stands on such a file.
 LACKS = re.compile(r"(note: )?(\./)?proofs/.*(has no field|is not in scope|has no `)")
 STANDS_ON = re.compile(r"(note: )?(\./)?proofs/.*was not admitted")
+# The goal that a clause of the contract holds when the function returns, as it is named alone or in
+# a cycle of calls.
+RETURNS = re.compile(r"`(\w+-)?returns")
 
 
 class Function(NamedTuple):
@@ -210,9 +213,9 @@ def told_of(change: Change, lines: list[str]) -> Told | None:
     told = [it for it in lines if any(one.is_of(it) for one in change.functions)]
     errors = [it for it in told if ": error" in it or it.startswith("note: ")]
     goals = [it for it in errors if not STANDS_ON.match(it)]
-    first = next((it for it in goals if not LACKS.match(it)), "")
-    if first:
-        return Told(first, lacks=False)
+    real = [it for it in goals if not LACKS.match(it)]
+    if real:
+        return Told(next(filter(RETURNS.search, real), real[0]), lacks=False)
     if goals:
         return Told(goals[0], lacks=True)
     # Where a function had no proof of its own, its verdict alone names the goals.
