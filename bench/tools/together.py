@@ -18,7 +18,9 @@ CONSTANT = re.compile(r" *(?:pub(?:\(\w+\))? )?const (\w+):")
 VERDICT = re.compile(r"fn (\S+): (.+)")
 TOLD = re.compile(r"(?:note: )?(?:\./)?((?:src|specs|proofs)/\S+?):(\d+):\d+: ")
 # A proof file that names what the edit took away, and one that stands on such a file.
-LACKS = re.compile(r"(note: )?(\./)?proofs/.*(has no field|is not in scope|has no `)")
+LACKS = re.compile(
+    r"(note: )?(\./)?proofs/.*(has no field|is not in scope|has no `|record `[^`]+` \(nearest: )"
+)
 STANDS_ON = re.compile(r"(note: )?(\./)?proofs/.*was not admitted")
 # The goal that a clause of the contract holds when the function returns, as it is named alone or in
 # a cycle of calls.
