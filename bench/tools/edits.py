@@ -36,7 +36,8 @@ OUTCOMES = (
 PASSED = ("refused", "limit")
 # Where an edit was refused, by what its goal says; the first that fits. Otherwise it is an overflow,
 # or what the called function requires.
-PLACES = (("clause", together.RETURNS), ("loop", re.compile(r"`(\w+-)?loop-")))
+LOOP = re.compile(r"`(\w+-)?loop-|`[\w-]+-(preserved|init)\b")
+PLACES = (("clause", together.RETURNS), ("loop", LOOP))
 # So many edits are tried in one check, which holds what it says of each in memory.
 MOST_TOGETHER = 12
 
