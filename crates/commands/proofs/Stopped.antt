@@ -16,8 +16,9 @@ use Rattle.table.specs.declared.answer.Answer.TheVariants as told
 use Rattle.table.specs.declared.call.Call.{Call as CodeCall}
 use Rattle.table_state.specs.declared.standing.Core.{Core}
 use Rattle.table_state.specs.Stands.{Stands}
-use Rattle.table_state.specs.Promises.{ActsFrom}
-use Rattle.store.specs.Running.{RunsFrom}
+use Rattle.table_state.specs.Promises.{IsOlderFile, ActsFrom}
+use Rattle.store.specs.Running.{IsOlderThroughout, RunsFrom}
+use Rattle.table_commits.proofs.OlderFiles.{kept_less}
 use Rattle.store.proofs.RunJoins.{nothing_yet, one_more}
 use Rattle.commands.specs.Stopping.{is_done, AreDone, EndAtRefusal, StopsAt, MakesToRefusalFrom}
 use Rattle.commands.specs.declared.stopping.Stop.{Stop}
@@ -102,6 +103,10 @@ module _ {Image : Type 0} {images : ℕ → Image → Type 0} {holds : Image →
   only_call : {answer : Answer} → RunsOn images holds start s (call ∷ []) (answer ∷ []) finish t → Happens s call answer t × Survives images holds start finish s t
   only_call (first_call happens survives no_calls) = (happens, survives)
 
+  -- what is older than its state is older throughout
+  older_once : {answer : Answer} (run : RunsOn images holds start s (call ∷ []) (answer ∷ []) finish t) (path : List ℕ) → IsOlderFile s path → IsOlderThroughout s run path
+  older_once (first_call happens survives no_calls) path older = (older, tt)
+
   -- it has one answer
   not_two : {first second : Answer} {answers : List Answer} → RunsOn images holds start s (call ∷ []) (first ∷ second ∷ answers) finish t → ⊥
   not_two (first_call happens survives run) = elim run [ ]
@@ -121,6 +126,7 @@ module _ {D : Type 0} (state : D → DiskState) where
         stands = run.stands;
         past = run.past;
         doubt = λ is. run.doubt (0, omega arith, is);
+        kept = λ keeps. kept_less state old new (IsOlderFile s) (IsOlderThroughout s run.runs) (older_once run.runs) (run.kept keeps);
       }
 
   -- the last answer of a run of one call

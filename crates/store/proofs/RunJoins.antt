@@ -12,9 +12,11 @@ use Rattle.table.specs.Stops.{Survives, RunsOn, no_calls, first_call}
 use Rattle.table_state.specs.declared.standing.Core.{Core}
 use Rattle.table_state.specs.OnDisk.{HoldsTable}
 use Rattle.table_state.specs.Stands.{Stands}
-use Rattle.table_state.specs.Promises.{KeepsPast, Acts, ActsFrom, HasCause}
-use Rattle.store.specs.Running.{Runs, RunsFrom, HaveCauses, HasFailedTimes}
+use Rattle.table_state.specs.Promises.{KeepsPast, IsOlderFile, Acts, ActsFrom, HasCause}
+use Rattle.store.specs.Running.{IsOlderThroughout, Runs, RunsFrom, HaveCauses, HasFailedTimes}
 use Rattle.table_commits.proofs.StateCarriedOver.{past_on}
+use Rattle.table_commits.proofs.DisksLeftAlone.{all_here}
+use Rattle.table_commits.proofs.OlderFiles.{kept_read, kept_on}
 use Rattle.table_commits.proofs.NextRootsKept.{next_kept_since, next_kept_on}
 
 -- what a stop left stays what it left
@@ -37,6 +39,17 @@ goes_on mid new past call answer u le no_calls happens survives = first_call hap
 goes_on mid new past call answer u le (first_call first survived run) happens survives =
     first_call first (survives_later mid new past _ _ _ _ (omega (arith, le, ends_by mid run)) survived) (goes_on mid new past call answer u le run happens survives)
 
+-- ---- what is older throughout
+
+-- than one state more: it was before, and it is older than the state before the last call
+older_before : (mid new : DiskState) (past : KeepsPast mid new) (call : Call) (answer : Answer) (u : State) {start finish : ℕ} {s t : State} {calls : List Call} {answers : List Answer}
+    (le : finish ≤ mid.moment) (run : RunsOn mid.images HoldsTable start s calls answers finish t) (happens : Happens t call answer u) (survives : Survives new.images HoldsTable finish new.moment t u) (path : List ℕ)
+    → IsOlderThroughout s (goes_on mid new past call answer u le run happens survives) path → IsOlderThroughout s run path × IsOlderFile t path
+unfolding goes_on
+older_before mid new past call answer u le no_calls happens survives path older = (tt, older.0)
+older_before mid new past call answer u le (first_call first survived run) happens survives path older =
+    let o = older_before mid new past call answer u le run happens survives path older.1 in ((older.0, o.0), o.1)
+
 -- ---- failures are counted
 
 one_by_one : (answers : List Answer) (answer : Answer) → length (filter is_failure (answers ++ answer ∷ [])) ≡ length (filter is_failure answers) + (if is_failure answer then 1 else 0)
@@ -50,20 +63,27 @@ one_by_one answers answer = ap length (filter-append is_failure answers (answer 
 
 module _ {D : Type 0} (state : D → DiskState) where
   pub nothing_yet : (store : Core D) (s : State) → Stands state store s → RunsFrom state store store [] [] s
-  nothing_yet store s stands = record { after = s; runs = no_calls; stands = stands; past = record { later = omega arith; history = λ m c l left. left; keeps = λ m c l left. left }; doubt = λ there. let none = there.1 in absurd (omega (arith, none)) }
+  nothing_yet store s stands = record { after = s; runs = no_calls; stands = stands; past = record { later = omega arith; history = λ m c l left. left; keeps = λ m c l left. left }; doubt = λ there. let none = there.1 in absurd (omega (arith, none)); kept = λ keeps. kept_read state store store _ keeps (all_here (state store.vault.disk)) }
 
   pub one_more : (old mid new : Core D) (calls : List Call) (answers : List Answer) (s : State) (run : RunsFrom state old mid calls answers s) (call : Call) (answer : Answer)
       → ActsFrom state mid new call answer run.after → RunsFrom state old new (calls ++ call ∷ []) (answers ++ answer ∷ []) s
-  one_more old mid new calls answers s run call answer acts = record {
-    after = acts.after;
-    runs = goes_on (state mid.vault.disk) (state new.vault.disk) acts.past call answer acts.after (omega arith) run.runs acts.happens acts.survives;
-    stands = acts.stands;
-    past = past_on (state old.vault.disk) (state mid.vault.disk) (state new.vault.disk) run.past acts.past;
-    doubt = λ there. ⊎_elim
-        (λ before. next_kept_on (state old.vault.disk) (state mid.vault.disk) (state new.vault.disk) acts.past (run.doubt before))
-        (λ is. next_kept_since (state old.vault.disk) (state mid.vault.disk) (state new.vault.disk) run.past.later (acts.doubt is))
-        (Contains-push_cases answers answer (refused InDoubt) there);
-  }
+  one_more old mid new calls answers s run call answer acts =
+      let now = state new.vault.disk in
+      let here : (state mid.vault.disk).moment ≤ (state mid.vault.disk).moment = omega arith in
+      let runs = goes_on (state mid.vault.disk) now acts.past call answer acts.after here run.runs acts.happens acts.survives in
+      let before = older_before (state mid.vault.disk) now acts.past call answer acts.after here run.runs acts.happens acts.survives in
+      record {
+        after = acts.after;
+        runs = runs;
+        stands = acts.stands;
+        past = past_on (state old.vault.disk) (state mid.vault.disk) now run.past acts.past;
+        doubt = λ there. ⊎_elim
+            (λ early. next_kept_on (state old.vault.disk) (state mid.vault.disk) now acts.past (run.doubt early))
+            (λ is. next_kept_since (state old.vault.disk) (state mid.vault.disk) now run.past.later (acts.doubt is))
+            (Contains-push_cases answers answer (refused InDoubt) there);
+        kept = λ keeps. let kept = run.kept keeps in
+            kept_on state old mid new (IsOlderThroughout s runs) (IsOlderThroughout s run.runs) (IsOlderFile run.after) (λ path older. (before path older).0) (λ path older. (before path older).1) kept (acts.kept kept.keeps);
+      }
 
   -- each failure that is told has one of its own
   pub causes_on : (old mid new : Core D) (calls : List Call) (answers : List Answer) (call : Call) (answer : Answer)

@@ -47,7 +47,8 @@ impl<D: Disk> Store<D> {
     }
 
     /// From here on no call of this store removes a file but [`Store::clean_up`]: a commit leaves the files that it replaces, and
-    /// an opening anew cleans nothing. So a program that began to read an earlier version can go on. Takes no memory.
+    /// an opening anew cleans nothing. So a program that began to read an earlier version can go on. Each call says so by its clause
+    /// `acts` (`ActsFrom.kept`). Takes no memory.
     pub fn keep_replaced(&mut self)
         ensures keeps { self.new ≡ record self.old { keeps = true } }
         ensures stands { (s : State) → Stands D.state self.old s → Stands D.state self.new s }

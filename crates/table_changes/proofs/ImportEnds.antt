@@ -102,7 +102,7 @@ module _ (s : State) (bytes : List ℕ) (given : List Row) (means : Imports s by
   happens_too (Err e) after h = refused_too e after h
 
   pub acts_too : {D : Type 0} (state : D → DiskState) (old new : Core D) (r : Result ℕ Refusal) → ActsFrom state old new (append given) (answered {T = ℕ} (λ x. done x) r) s → ActsFrom state old new (import bytes) (answered {T = ℕ} (λ x. done x) r) s
-  acts_too state old new r a = record { after = a.after; happens = happens_too r a.after a.happens; survives = a.survives; stands = a.stands; past = a.past; doubt = a.doubt }
+  acts_too state old new r a = record { after = a.after; happens = happens_too r a.after a.happens; survives = a.survives; stands = a.stands; past = a.past; doubt = a.doubt; kept = a.kept }
 
 -- ---- refusals before anything is written
 

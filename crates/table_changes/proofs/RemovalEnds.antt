@@ -39,7 +39,7 @@ use Rattle.table.specs.Refusing.{Happens, is_failure, over as refused_over, no_m
 use Rattle.table.proofs.Counters.{counters_cover}
 use Rattle.table_state.specs.declared.standing.Core.{Core}
 use Rattle.table_changes.specs.declared.removing.Removed.{Removed}
-use Rattle.table_state.specs.Paths.{IsBelow}
+use Rattle.table_state.specs.Paths.{IsOlder}
 use Rattle.table_state.specs.Stands.{AreStored, ShowsOpen, Stands}
 use Rattle.table_commits.specs.Writing.{counted}
 use Rattle.table_commits.specs.Committing.{with_version, IsPlanned, Turns}
@@ -50,9 +50,9 @@ use Rattle.table_commits.specs.Filling.{HasWritten}
 use Rattle.table_changes.specs.Removing.{Outcome, IsLeft, not_those, files_come, groups_come, changes_for, HasReplaced, IsHalted, WhyHalted}
 use Rattle.table_commits.proofs.FilesSoFar.{wrote_nothing}
 use Rattle.table_commits.proofs.CommitsFromParts.{commits_act, refusals_act}
-use Rattle.table_commits.proofs.StateCarriedOver.{past_of, survives_spared}
+use Rattle.table_commits.proofs.StateCarriedOver.{root_is_older, file_is_older, past_of, survives_spared}
 use Rattle.table_commits.proofs.OneCallMore.{reached_on}
-use Rattle.table_commits.proofs.StoredStays.{part_below}
+use Rattle.table_commits.proofs.OlderFiles.{kept_spared}
 use Rattle.table_commits.proofs.NumbersHad.{had_all, had_same}
 use Rattle.table_commits.proofs.JobsAfterCommits.{jobs_left_so}
 use Rattle.table_commits.proofs.SomeGroups.{distinct_test, order_test, same_numbers}
@@ -219,10 +219,11 @@ module _ {D : Type 0} (state : D → DiskState) (old : Core D) (s : State) (stan
       nothing_removed none = record {
         after = counted s mid.next_group;
         happens = happens;
-        survives = survives_spared state old s stands.shows is_open (IsBelow s.table.keys s.next_group) (inl refl) (λ f below held. inr (part_below s.table.keys s.next_group f below)) disk r.written.wrote.spares (counted s mid.next_group) refl;
+        survives = survives_spared state old s stands.shows is_open (IsOlder s.table.keys s.next_group) (root_is_older state old s stands.shows) (λ f below held. file_is_older state old s stands.shows f below) disk r.written.wrote.spares (counted s mid.next_group) refl;
         stands = record { reached = reached_on s stands.reached call (done 0) (counted s mid.next_group) happens; shows = r.written.wrote.shows };
         past = past_of (state old.vault.disk) disk r.written.wrote.spares.moments;
         doubt = λ is. absurd (cc);
+        kept = λ keeps. kept_spared state old mid s (r.written.wrote.keeps ∙ keeps) r.written.wrote.spares;
       }
         where
           stay : (groups ≡ old_groups) × (length (rows (touched pass old_groups)) ≡ 0)

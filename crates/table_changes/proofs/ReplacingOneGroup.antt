@@ -30,7 +30,7 @@ use Rattle.table.specs.Limits.{IsFileTooMuch}
 use Rattle.table_state.specs.declared.standing.Core.{Core}
 use Rattle.table_changes.specs.declared.remaining.Remains.{Remains}
 use Rattle.table_changes.specs.declared.removing.Removed.{Removed}
-use Rattle.table_state.specs.Paths.{IsBelow}
+use Rattle.table_state.specs.Paths.{IsOlder}
 use Rattle.table_commits.specs.Writing.{Writes, IsPartRefusal, counted}
 use Rattle.table_commits.specs.Acting.{WroteTo}
 use Rattle.table_state.specs.Buffers.{buffer}
@@ -62,7 +62,8 @@ module _ {D : Type 0} (state : D → DiskState) (start now : Core D) (s : State)
         let spared = λ (Needed : List ℕ → Type 0). read_spares keys w.shows.apart Needed old new leaves in
         record {
           rises = w.rises;
-          spares = spares_on keys (IsBelow keys s.next_group) (state start.vault.disk) old new w.spares (spared (IsBelow keys s.next_group));
+          keeps = w.keeps;
+          spares = spares_on keys (IsOlder keys s.next_group) (state start.vault.disk) old new w.spares (spared (IsOlder keys s.next_group));
           shows = (read_still state now (counted s counter) w.shows is_open vault leaves).shows;
           jobs = jobs_on keys s.table.schema s.next_group s.next_group s.options.group_rows (omega arith) s.had s.had (λ n low e. e) versions versions (λ q. Unit {0}) (λ f low held. tt) old new (spared (λ q. Unit {0}))
               (hold_same versions.jobs versions.jobs refl) now.jobs.items s.jobs w.jobs;

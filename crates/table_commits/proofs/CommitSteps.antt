@@ -1,5 +1,5 @@
 -- A commit from its plan to its end.
-use Rattle.std.proofs.Common.{◌≡◌, ◌≢◌, ◌⊎◌, ℕ, false, List, Option, Some, None, Ok, refl, sym, ◌∙◌, ap, subst, arith, inl, inr, ⊎_elim}
+use Rattle.std.proofs.Common.{◌≡◌, ◌≢◌, ◌⊎◌, ℕ, true, false, List, Option, Some, None, Ok, refl, sym, ◌∙◌, ap, subst, arith, inl, inr, ⊎_elim}
 use Rattle.std.proofs.lemmas.Bool.{cases_lt}
 use Rattle.bits.specs.declared.refusal.Refusal.{Refusal}
 use Rattle.bits.specs.declared.refusal.Refusal.TheVariants.{Limit, Device, InDoubt}
@@ -16,11 +16,14 @@ use Rattle.table_state.specs.declared.standing.Core.{Core}
 use Rattle.table_commits.specs.declared.turn.Turn.{Turn}
 use Rattle.table_state.specs.OnDisk.{HoldsTable}
 use Rattle.table_state.specs.Stands.{AreStored, Shows}
+use Rattle.table_state.specs.Promises.{IsOlderFile, KeepsFiles}
 use Rattle.table_commits.specs.Committing.{IsMade, IsPlanned, IsTurnTo, ShowsJobsLeft, turned, TurnsInto, Turns}
 use Rattle.table_commits.specs.Cleaning.{Clears}
 use Rattle.table_commits.proofs.PartFilesWritten.{failed}
 use Rattle.table_commits.proofs.StateCarriedOver.{past_on}
 use Rattle.table_commits.proofs.AfterCleanings.{nothing_cleared}
+use Rattle.table_commits.proofs.DisksLeftAlone.{all_here}
+use Rattle.table_commits.proofs.OlderFiles.{kept_read}
 
 -- the versions are prepared for what the turn has
 pub prepared_so : (versions : Versions) (root : Root) (job : Option ℕ) (turn : Turn) → IsMade versions root job turn → prepared_of turn.prepared ≡ after versions (committed (root_of turn.manifest).groups turn.job)
@@ -80,6 +83,7 @@ module _ {D : Type 0} (state : D → DiskState) (store : Core D) (s : State) (t 
     past = still.past;
     cause = ⊎_elim (λ is. absurd (no_failure Device e no_device cause is)) (λ is. absurd (no_doubt e cause is));
     doubt = λ is. absurd (no_doubt e cause is);
+    kept = λ keeps. kept_read state store store (IsOlderFile s) keeps (all_here disk);
   }
 
   pub too_heavy : (A : Type 0) → A ⊎ (fault_of (state_of store.snapshots) (committed root.groups job) ≡ Some Limit) → A
@@ -87,8 +91,8 @@ module _ {D : Type 0} (state : D → DiskState) (store : Core D) (s : State) (t 
   too_heavy A (inr f) = absurd (let c : None ≡ Some Limit = sym planned.unrefused ∙ f in cc)
 
   -- it was done, and what nothing needs was removed
-  pub done_and_cleared : {T U : Type 0} (x : T) (y : U) (mid new : Core D) → Turns state store mid s t jobs (Ok x) → Clears state mid new (turned s t jobs) → Turns state store new s t jobs (Ok y)
-  done_and_cleared x y mid new one two =
+  pub done_and_cleared : {T U : Type 0} (x : T) (y : U) (mid new : Core D) → Turns state store mid s t jobs (Ok x) → Clears state mid new (turned s t jobs) → (mid.keeps ≡ true → new ≡ mid) → Turns state store new s t jobs (Ok y)
+  done_and_cleared x y mid new one two still =
       let survived = subst (λ (a : State). Survives (state mid.vault.disk).images HoldsTable disk.moment (state mid.vault.disk).moment s a) one.is one.survives in
       record {
         after_it = turned s t jobs;
@@ -105,6 +109,7 @@ module _ {D : Type 0} (state : D → DiskState) (store : Core D) (s : State) (t 
         past = past_on disk (state mid.vault.disk) (state new.vault.disk) one.past two.past;
         cause = tt;
         doubt = tt;
+        kept = λ keeps. let kept = one.kept keeps in subst (λ (st : Core D). KeepsFiles state store st (IsOlderFile s)) (sym (still kept.keeps)) kept;
       }
 
   pub shows_turned : {T : Type 0} (x : T) (mid : Core D) → Turns state store mid s t jobs (Ok x) → Shows state mid (turned s t jobs)

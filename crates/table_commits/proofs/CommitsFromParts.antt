@@ -1,5 +1,5 @@
 -- A commit call from its parts.
-use Rattle.std.proofs.Common.{◌≡◌, ℕ, false, not, Result, Ok, Err, refl, sym, ap, subst, arith, inl, inr, ⊎_elim}
+use Rattle.std.proofs.Common.{◌≡◌, ℕ, true, false, not, Result, Ok, Err, refl, sym, ◌∙◌, ap, subst, arith, inl, ⊎_elim}
 use Rattle.std.proofs.lemmas.Bool.{cases_lt}
 use Rattle.bits.specs.declared.refusal.Refusal.{Refusal}
 use Rattle.bits.specs.declared.refusal.Refusal.TheVariants.{Limit, Device, Memory, InDoubt}
@@ -12,23 +12,27 @@ use Rattle.table.specs.Refusing.{Happens, Stays, over, no_memory, failed, in_dou
 use Rattle.table.specs.Stops.{Survives}
 use Rattle.table.specs.Views.{answered}
 use Rattle.table_state.specs.declared.standing.Core.{Core}
-use Rattle.table_state.specs.Paths.{IsBelow}
+use Rattle.table_state.specs.Paths.{IsOlder}
 use Rattle.table_state.specs.OnDisk.{HoldsTable}
 use Rattle.table_state.specs.Stands.{Stands}
 use Rattle.table_commits.specs.Writing.{counted}
 use Rattle.table_commits.specs.Committing.{turned, Turns}
-use Rattle.table_state.specs.Promises.{WasNextKept, ActsFrom}
+use Rattle.table_state.specs.Promises.{WasNextKept, IsOlderFile, KeepsFiles, ActsFrom}
 use Rattle.table_commits.specs.Acting.{WroteTo, HasReason, AsksCommit, CommitsAct, RefusalsAct, AppendsAsk}
 use Rattle.table_commits.proofs.OneCallMore.{reached_on}
 use Rattle.table_commits.proofs.DoubtCloses.{no_doubt}
 use Rattle.table_commits.proofs.NextRootsKept.{next_kept_since}
-use Rattle.table_commits.proofs.StoredStays.{part_below}
-use Rattle.table_commits.proofs.StateCarriedOver.{past_of, past_on, survives_spared}
+use Rattle.table_commits.proofs.StateCarriedOver.{root_is_older, file_is_older, past_of, past_on, survives_spared}
+use Rattle.table_commits.proofs.OlderFiles.{older_counted, kept_spared, kept_on}
 
 module _ {D : Type 0} (state : D → DiskState) where
   module _ (old mid : Core D) (s : State) (counter : ℕ) (stands : Stands state old s) (is_open : s.closed ≡ false) (wrote : WroteTo state old mid s counter) where
     before : (after : State) → after.table ≡ s.table → Survives (state mid.vault.disk).images HoldsTable (state old.vault.disk).moment (state mid.vault.disk).moment s after
-    before after same = survives_spared state old s stands.shows is_open (IsBelow s.table.keys s.next_group) (inl refl) (λ f low held. inr (part_below s.table.keys s.next_group f low)) (state mid.vault.disk) wrote.spares after same
+    before after same = survives_spared state old s stands.shows is_open (IsOlder s.table.keys s.next_group) (root_is_older state old s stands.shows) (λ f low held. file_is_older state old s stands.shows f low) (state mid.vault.disk) wrote.spares after same
+
+    -- what was written is younger
+    kept_so_far : old.keeps ≡ true → KeepsFiles state old mid (IsOlderFile s)
+    kept_so_far keeps = kept_spared state old mid s (wrote.keeps ∙ keeps) wrote.spares
 
     pub refused_after : (call : Call) (e : Refusal) → Happens s call (refused e) (counted s counter) → ActsFrom state old mid call (refused e) s
     refused_after call e happens = record {
@@ -38,6 +42,7 @@ module _ {D : Type 0} (state : D → DiskState) where
       stands = record { reached = reached_on s stands.reached call (refused e) (counted s counter) happens; shows = wrote.shows };
       past = past_of (state old.vault.disk) (state mid.vault.disk) wrote.spares.moments;
       doubt = no_doubt s call (refused e) (counted s counter) happens refl;
+      kept = kept_so_far;
     }
 
     module _ (new : Core D) (call : Call) (n : ℕ) (t : Table) (asks : AsksCommit s call n t counter) where
@@ -60,6 +65,7 @@ module _ {D : Type 0} (state : D → DiskState) where
         stands = record { reached = reached_on s stands.reached call answer turns.after_it happens; shows = turns.shows };
         past = past_on (state old.vault.disk) (state mid.vault.disk) (state new.vault.disk) (past_of (state old.vault.disk) (state mid.vault.disk) wrote.spares.moments) turns.past;
         doubt = λ is. next_kept_since (state old.vault.disk) (state mid.vault.disk) (state new.vault.disk) wrote.spares.moments.later (doubt is);
+        kept = λ keeps. let kept = kept_so_far keeps in kept_on state old mid new (IsOlderFile s) (IsOlderFile s) (IsOlderFile (counted s counter)) (λ path older. older) (older_counted s counter wrote.rises) kept (turns.kept kept.keeps);
       }
 
       stays : Stays s call (counted s counter)

@@ -1,5 +1,5 @@
 -- A store that keeps what is replaced; and where the files that it writes stand.
-use Rattle.std.proofs.Common.{◌≡◌, ℕ, true, false, List, refl, sym, ap, subst, arith, inr}
+use Rattle.std.proofs.Common.{◌≡◌, ℕ, true, false, List, refl, sym, ap, subst, arith}
 use Rattle.std.specs.Prelude.{Contains}
 use Rattle.schema.specs.Keys.{KeyColumn}
 use Rattle.disk.specs.State.{State as DiskState}
@@ -10,11 +10,11 @@ use Rattle.table.specs.Table.{Key}
 use Rattle.table.specs.State.{State}
 use Rattle.table.proofs.Counters.{counters_cover}
 use Rattle.table_state.specs.declared.standing.Core.{Core}
-use Rattle.table_state.specs.Paths.{IsPartPath, IsBelow}
+use Rattle.table_state.specs.Paths.{IsPartPath, IsPartBelow}
 use Rattle.table_state.specs.Stands.{Shows, ShowsOpen, Stands}
 use Rattle.table_commits.specs.Keeping.{IsFreePath, NewFilesAreFree}
 use Rattle.table_commits.proofs.StateCarriedOver.{shown}
-use Rattle.table_commits.proofs.SparedDisks.{below_not_part}
+use Rattle.table_commits.proofs.SparedDisks.{part_older, older_not_part}
 use Rattle.table_commits.proofs.StoredStays.{stored_there}
 
 -- what a store stands for does not depend on what it keeps
@@ -76,24 +76,25 @@ module _ {D : Type 0} (state : D → DiskState) (store : Core D) (s : State) (st
   part : IsPartPath keys path
   part = record { key = key; number = s.next_group; can = can; fits = stands.shows.counted; is = refl }
 
-  low_is_other : (q : List ℕ) → IsBelow keys s.next_group q → q ≡ path → ⊥
+  low_is_other : (q : List ℕ) → IsPartBelow keys s.next_group q → q ≡ path → ⊥
   unfolding part
-  low_is_other q low = below_not_part keys stands.shows.apart s.next_group path part (let same : part.number ≡ s.next_group = refl in omega (arith, same)) q low
+  low_is_other q low = older_not_part keys stands.shows.apart s.next_group path part (let same : part.number ≡ s.next_group = refl in omega (arith, same)) q
+      (part_older keys stands.shows.apart s.next_group (let l = stands.shows.counted in omega (arith, l)) q low)
 
   named_is_other : (g : FileGroup) → Contains (root_of store.manifest).groups g → path_of_group (root_of store.manifest) g ≡ path → ⊥
   named_is_other g c e =
       let low = stored_there (state store.vault.disk) keys s.table.schema s.next_group (root_of store.manifest).groups s.table.groups (shown state store s stands.shows is_open).version g c in
       low_is_other (path_of_group (root_of store.manifest) g)
-      (inr (record { key = g.key; number = g.number; can = low.0; below = low.1; is = ap (λ (ks : List KeyColumn). part_path_of ks g.key g.number) stands.shows.keys })) e
+      (record { key = g.key; number = g.number; can = low.0; below = low.1; is = ap (λ (ks : List KeyColumn). part_path_of ks g.key g.number) stands.shows.keys }) e
 
   free_here : IsFreePath store s path
   free_here = record {
     root = (stands.shows.apart.off_roots keys key s.next_group can stands.shows.counted).not_root;
     next = (stands.shows.apart.off_roots keys key s.next_group can stands.shows.counted).not_next;
     named = named_is_other;
-    had = λ k n able had. low_is_other (part_path_of keys k n) (inr (record { key = k; number = n; can = able; below = (counters_cover s stands.reached).had n had; is = refl }));
+    had = λ k n able had. low_is_other (part_path_of keys k n) (record { key = k; number = n; can = able; below = (counters_cover s stands.reached).had n had; is = refl });
     written = λ f able there. low_is_other (part_path_of keys f.key f.number)
-        (inr (record { key = f.key; number = f.number; can = able; below = (shown state store s stands.shows is_open).files f there; is = refl }));
+        (record { key = f.key; number = f.number; can = able; below = (shown state store s stands.shows is_open).files f there; is = refl });
   }
 
   pub free_next : IsFreePath store s (part_path_of keys key store.next_group)

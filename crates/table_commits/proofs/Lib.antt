@@ -10,6 +10,7 @@ pub mod PartFilesWritten
 mod SmallerGroups
 pub mod OpenNumbers
 pub mod FilesSoFar
+pub mod OlderFiles
 mod SwappedRoots
 pub mod AfterCleanings
 mod CommitSteps

@@ -117,6 +117,7 @@ module _ {D : Type 0} (state : D → DiskState) (store : Core D) (s : State) (sh
   spared : (new : DiskState) → Cleans root disk new → (IsRooted disk → StaysRooted disk new) → LeavesWays disk new → Spares keys Needed disk new
   spared new cleans rooted clear = record {
     moments = widens (AllButLitter root) (Agrees Needed) disk new (λ u v but q need. but q need) cleans.moments;
+    seen = λ q need other. cleans.files q need;
     rooted = rooted;
     clear = λ q place. clear q;
   }

@@ -1,5 +1,5 @@
 -- Where a store stands after a part file was to be written.
-use Rattle.std.proofs.Common.{◌≡◌, ◌<◌, ◌+◌, ◌-◌, ◌^◌, ℕ, Bool, true, false, ◌||◌, ◌==◌, if◌then◌else◌, List, [], ◌∷◌, Option, Some, Result, Ok, Err, refl, sym, ◌∙◌, ap, subst, arith, inl, inr, ⊎_elim}
+use Rattle.std.proofs.Common.{◌≡◌, ◌<◌, ◌+◌, ◌-◌, ◌^◌, ℕ, Bool, true, false, ◌||◌, ◌==◌, if◌then◌else◌, List, [], ◌∷◌, Option, Some, Result, Ok, Err, refl, sym, ◌∙◌, ap, subst, arith, inr, ⊎_elim}
 use Rattle.std.specs.Prelude.{None, string_bytes}
 use Rattle.std.specs.Rc.{rc_value}
 use Rattle.std.specs.declared.rc.Rc.{Rc}
@@ -26,15 +26,15 @@ use Rattle.table.specs.Table.{Row, Key}
 use Rattle.table.specs.State.{State}
 use Rattle.table_state.specs.declared.standing.Core.{Core}
 use Rattle.table_commits.specs.declared.part.Part.{Part}
-use Rattle.table_state.specs.Paths.{IsPartPath, IsBelow}
+use Rattle.table_state.specs.Paths.{IsPartPath, IsOlder}
 use Rattle.table_state.specs.Spares.{Spares}
 use Rattle.table_state.specs.Stands.{AreFilesBelow, AreTracked, ShowsOpen, Shows, numbers_at}
 use Rattle.table_commits.specs.Writing.{HoldsMore, HoldMore, IsHeldFor, IsSameUse, IsPartFor, Writes}
-use Rattle.table_commits.proofs.SparedDisks.{spares_here, put_spares, below_not_part}
+use Rattle.table_commits.proofs.SparedDisks.{spares_here, put_spares, older_not_part}
 use Rattle.table_commits.proofs.FilesInUse.{same_itself}
 use Rattle.table_commits.proofs.TrackedFiles.{tracked_as, tracked_after_put}
-use Rattle.table_commits.proofs.StoredStays.{holds_same, hold_same, part_below}
-use Rattle.table_commits.proofs.StateCarriedOver.{carried}
+use Rattle.table_commits.proofs.StoredStays.{holds_same, hold_same}
+use Rattle.table_commits.proofs.StateCarriedOver.{root_is_older, file_is_older, carried}
 
 pub same_use : (a b : Versions) → b ≡ a → IsSameUse a b
 same_use a b e = record {
@@ -149,8 +149,9 @@ module _ {D : Type 0} (state : D → DiskState) (store : Core D) (s : State) (jo
   nothing_written snapshots same e other = record {
     no_less = omega arith;
     no_more = omega arith;
-    spares = spares_here keys (IsBelow keys s.next_group) disk;
-    shows = carried state store s shows is_open store.vault snapshots store.next_group (omega (arith, count_is)) (let l = shows.counted in omega (arith, l, count_is)) (IsBelow keys s.next_group) (inl refl) (λ f low held. inr (part_below keys s.next_group f low)) (spares_here keys (IsBelow keys s.next_group) disk)
+    keeps = refl;
+    spares = spares_here keys (IsOlder keys s.next_group) disk;
+    shows = carried state store s shows is_open store.vault snapshots store.next_group (omega (arith, count_is)) (let l = shows.counted in omega (arith, l, count_is)) (IsOlder keys s.next_group) (root_is_older state store s shows) (λ f low held. file_is_older state store s shows f low) (spares_here keys (IsOlder keys s.next_group) disk)
         (same_use (state_of store.snapshots) (state_of snapshots) same)
         (files_here store.next_group (state_of store.snapshots) (state_of snapshots) same (λ f there. let l = shown.files f there in omega (arith, l, count_is)))
         store.clean (λ clean. tracked_as disk (root_of store.manifest).keys (state_of store.snapshots) (state_of snapshots) (ap (λ (v : Versions). v.files) same) (shown.tracked clean));
@@ -186,9 +187,9 @@ module _ {D : Type 0} (state : D → DiskState) (store : Core D) (s : State) (jo
           (either (is_same (file_of (group_view (rc_value tracked))) f) ((state_of store.snapshots).files f) (sym (ap (λ (v : Versions). v.files f) stepped) ∙ there))
 
       module _ (vault : Vault D) where
-        puts_spare : {T : Type 0} (bytes : List ℕ) (result : Result T Refusal) → Puts (string_bytes part.path) bytes disk (state vault.disk) result → Spares keys (IsBelow keys s.next_group) disk (state vault.disk)
-        puts_spare bytes result puts = put_spares keys shows.apart (IsBelow keys s.next_group) (string_bytes part.path) bytes disk (state vault.disk) result part_path
-            (below_not_part keys shows.apart s.next_group (string_bytes part.path) part_path (omega arith)) puts
+        puts_spare : {T : Type 0} (bytes : List ℕ) (result : Result T Refusal) → Puts (string_bytes part.path) bytes disk (state vault.disk) result → Spares keys (IsOlder keys s.next_group) disk (state vault.disk)
+        puts_spare bytes result puts = put_spares keys shows.apart (IsOlder keys s.next_group) (string_bytes part.path) bytes disk (state vault.disk) result part_path
+            (older_not_part keys shows.apart s.next_group (string_bytes part.path) part_path (omega arith)) puts
 
         file_is : file_of (group_view (rc_value tracked)) ≡ record { number = s.next_group; key = key }
         file_is = cc (number_is, key_is)
@@ -202,9 +203,9 @@ module _ {D : Type 0} (state : D → DiskState) (store : Core D) (s : State) (jo
             (subst (λ (p : List ℕ). ReadsAs (AllBut p) disk (state vault.disk)) ready.path_is seen)
             (subst (λ (ks : List KeyColumn). AreTracked disk ks (state_of store.snapshots)) shows.keys (shown.tracked clean)))
 
-        shows_after : Spares keys (IsBelow keys s.next_group) disk (state vault.disk) → ReadsAs (AllBut (string_bytes part.path)) disk (state vault.disk)
+        shows_after : Spares keys (IsOlder keys s.next_group) disk (state vault.disk) → ReadsAs (AllBut (string_bytes part.path)) disk (state vault.disk)
             → Shows state (record store { vault = vault; snapshots = snapshots; next_group = count }) (record s { next_group = count })
-        shows_after spares seen = carried state store s shows is_open vault snapshots count (omega (arith, count_is)) (omega (arith, counter)) (IsBelow keys s.next_group) (inl refl) (λ f low held. inr (part_below keys s.next_group f low)) spares use_here files_below
+        shows_after spares seen = carried state store s shows is_open vault snapshots count (omega (arith, count_is)) (omega (arith, counter)) (IsOlder keys s.next_group) (root_is_older state store s shows) (λ f low held. file_is_older state store s shows f low) spares use_here files_below
             store.clean (tracked_now seen)
 
         pub put_refused : {T : Type 0} (bytes : List ℕ) (e : Refusal) → Puts (string_bytes part.path) bytes disk (state vault.disk) (failed T e)
@@ -212,6 +213,7 @@ module _ {D : Type 0} (state : D → DiskState) (store : Core D) (s : State) (jo
         put_refused bytes e puts = let spares = puts_spare bytes (failed _ e) puts in record {
           no_less = omega arith;
           no_more = omega arith;
+          keeps = refl;
           spares = spares;
           shows = shows_after spares puts.seen;
           in_use = use_here;
@@ -226,6 +228,7 @@ module _ {D : Type 0} (state : D → DiskState) (store : Core D) (s : State) (jo
         put_done x there same puts = let spares = puts_spare part.bytes.items (Ok x) puts in record {
           no_less = omega arith;
           no_more = omega arith;
+          keeps = refl;
           spares = spares;
           shows = shows_after spares puts.seen;
           in_use = use_here;

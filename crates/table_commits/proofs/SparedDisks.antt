@@ -1,5 +1,5 @@
 -- What a call spares, from disk to disk.
-use Rattle.std.proofs.Common.{◌≡◌, ◌≤◌, ◌^◌, ℕ, List, refl, sym, ◌∙◌, subst, arith, ⊎_elim}
+use Rattle.std.proofs.Common.{◌≡◌, ◌≤◌, ◌<◌, ◌^◌, ℕ, List, refl, sym, ◌∙◌, subst, arith, ⊎_elim}
 use Rattle.std.specs.Prelude.{Result}
 use Rattle.bits.specs.declared.refusal.Refusal.{Refusal}
 use Rattle.schema.specs.Keys.{KeyColumn}
@@ -11,13 +11,14 @@ use Rattle.vault.specs.Calls.{LeavesAll, Puts, SwapsRoot, Forgets}
 use Rattle.vault.proofs.Moments.{joins, widens, rooted_joins, clear_joins, stays_rooted_here, stays_clear_here}
 use Rattle.vault.proofs.Names.{root_alone, next_alone, root_not_next}
 use Rattle.partition.specs.Folders.{part_path_of}
-use Rattle.table_state.specs.Paths.{IsPartPath, IsBelow, IsOffRoots, PathsAreApart}
+use Rattle.table_state.specs.Paths.{IsPartPath, IsPartBelow, IsOlder, IsOffRoots, PathsAreApart}
 use Rattle.table_state.specs.Spares.{Agrees, IsPlace, Spares, HasRoom}
 
 module _ (keys : List KeyColumn) (Needed : List ℕ → Type 0) where
   pub spares_on : (old mid new : DiskState) → Spares keys Needed old mid → Spares keys Needed mid new → Spares keys Needed old new
   spares_on old mid new one two = record {
     moments = joins (Agrees Needed) (Agrees Needed) (Agrees Needed) old mid new (λ u v w a b path need. b path need ∙ a path need) (λ u v a. a) one.moments two.moments;
+    seen = λ path need other. two.seen path need other ∙ one.seen path need other;
     rooted = λ r. rooted_joins (Agrees Needed) (Agrees Needed) old mid new one.moments two.moments (one.rooted r) two.rooted;
     clear = λ path place way. clear_joins (Agrees Needed) (Agrees Needed) old mid new path one.moments two.moments (one.clear path place way) (two.clear path place);
   }
@@ -32,6 +33,7 @@ module _ (keys : List KeyColumn) (Needed : List ℕ → Type 0) where
           let is : m ≡ disk.moment = omega (arith, lo, hi) in
           (c, subst (λ (k : ℕ). disk.images k c) is at, λ path need. refl);
     };
+    seen = λ path need other. refl;
     rooted = stays_rooted_here disk;
     clear = λ path place. stays_clear_here disk path;
   }
@@ -52,6 +54,7 @@ module _ (keys : List KeyColumn) (Needed : List ℕ → Type 0) where
 pub spares_less : (keys : List KeyColumn) (Needed Less : List ℕ → Type 0) → ((path : List ℕ) → Less path → Needed path) → (old new : DiskState) → Spares keys Needed old new → Spares keys Less old new
 spares_less keys Needed Less fewer old new spared = record {
   moments = widens (Agrees Needed) (Agrees Less) old new (λ u v a path need. a path (fewer path need)) spared.moments;
+  seen = λ path need other. spared.seen path (fewer path need) other;
   rooted = spared.rooted;
   clear = spared.clear;
 }
@@ -97,6 +100,7 @@ module _ (keys : List KeyColumn) (apart : PathsAreApart) where
       → ((q : List ℕ) → Needed q → q ≡ path → ⊥) → Puts path bytes old new result → Spares keys Needed old new
   put_spares Needed path bytes old new result part free puts = record {
     moments = widens (AllBut path) (Agrees Needed) old new (λ u v a q need. a q (free q need)) puts.moments;
+    seen = λ q need other. puts.seen q (free q need);
     rooted = puts.rooted;
     clear = λ q place. puts.clear q (apart_from_place path q part place);
   }
@@ -106,6 +110,7 @@ module _ (keys : List KeyColumn) (apart : PathsAreApart) where
       → Forgets path old new result → Spares keys Needed old new
   forget_spares Needed path old new result free forgets = record {
     moments = widens (AllBut path) (Agrees Needed) old new (λ u v a q need. a q (free q need)) forgets.moments;
+    seen = λ q need other. forgets.seen q (free q need);
     rooted = forgets.rooted;
     clear = λ q place. forgets.clear q;
   }
@@ -114,6 +119,7 @@ module _ (keys : List KeyColumn) (apart : PathsAreApart) where
   pub read_spares : (Needed : List ℕ → Type 0) (old new : DiskState) → LeavesAll old new → Spares keys Needed old new
   read_spares Needed old new left = record {
     moments = widens Same (Agrees Needed) old new (λ u v a q need. a q) left.moments;
+    seen = λ q need other. left.seen q;
     rooted = left.rooted;
     clear = λ q place. left.clear q;
   }
@@ -123,22 +129,34 @@ module _ (keys : List KeyColumn) (apart : PathsAreApart) where
       → SwapsRoot root old new result → LeavesAfter (AllBut next_path) old new → Spares keys Needed old new
   swap_spares Needed root old new result free swaps left = record {
     moments = widens (AllBut next_path) (Agrees Needed) old new (λ u v a q need. a q (free q need)) left;
+    seen = λ q need other. swaps.seen.others q other (free q need);
     rooted = swaps.rooted;
     clear = λ q place. swaps.clear q (off_place q place);
   }
 
-  -- neither the root nor a part file is the next root
-  pub below_not_next : (count : ℕ) → count ≤ 2 ^ 64 → (q : List ℕ) → IsBelow keys count q → q ≡ next_path → ⊥
-  below_not_next count small q need is = ⊎_elim
-      (λ root. root_not_next (sym root ∙ is))
-      (λ part. (apart.off_roots keys part.key part.number part.can (let l = part.below in omega (arith, l, small))).not_next (sym part.is ∙ is))
-      need
+  -- ---- older paths
 
-  -- nor a part file of a number that is not below
-  pub below_not_part : (count : ℕ) (path : List ℕ) (part : IsPartPath keys path) → count ≤ part.number → (q : List ℕ) → IsBelow keys count q → q ≡ path → ⊥
-  below_not_part count path part most q need is = ⊎_elim
-      (λ root. (off_part path part).not_root (sym is ∙ root))
-      (λ low.
-      let same = apart.name_parts keys low.key part.key low.number part.number low.can.values part.can.values (let l = low.below in let f = part.fits in omega (arith, l, f, most)) part.fits (sym low.is ∙ is ∙ part.is) in
-      let l = low.below in let e = same.1 in absurd (omega (arith, l, e, most)))
-      need
+  -- the root's path is one
+  pub root_older : (count : ℕ) → IsOlder keys count root_path
+  root_older count = record { not_next = root_not_next; not_later = λ part. absurd ((off_part root_path part).not_root refl) }
+
+  -- so is that of a part file of a number below
+  pub part_older : (count : ℕ) → count ≤ 2 ^ 64 → (q : List ℕ) → IsPartBelow keys count q → IsOlder keys count q
+  part_older count small q low =
+      let fits : low.number < 2 ^ 64 = let l = low.below in omega (arith, l, small) in
+      record {
+        not_next = λ is. (apart.off_roots keys low.key low.number low.can fits).not_next (sym low.is ∙ is);
+        not_later = λ part.
+            let same = apart.name_parts keys low.key part.key low.number part.number low.can.values part.can.values fits part.fits (sym low.is ∙ part.is) in
+            let l = low.below in let e = same.1 in omega (arith, l, e);
+      }
+
+  -- what is older is none of a number that is not below
+  pub older_not_part : (count : ℕ) (path : List ℕ) (part : IsPartPath keys path) → count ≤ part.number → (q : List ℕ) → IsOlder keys count q → q ≡ path → ⊥
+  older_not_part count path part most q older is =
+      let l = older.not_later (record { key = part.key; number = part.number; can = part.can; fits = part.fits; is = is ∙ part.is }) in
+      absurd (omega (arith, l, most))
+
+-- what is older than a number is older than a greater one
+pub older_still : (keys : List KeyColumn) (count more : ℕ) → count ≤ more → (path : List ℕ) → IsOlder keys count path → IsOlder keys more path
+older_still keys count more grows path older = record { not_next = older.not_next; not_later = λ part. let l = older.not_later part in omega (arith, l, grows) }

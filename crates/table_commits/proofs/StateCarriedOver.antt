@@ -14,12 +14,13 @@ use Rattle.table.specs.State.{State}
 use Rattle.table.specs.Stops.{MayHold, Survives}
 use Rattle.table_state.specs.declared.standing.Core.{Core}
 use Rattle.table_state.specs.OnDisk.{HoldsTable}
+use Rattle.table_state.specs.Paths.{IsOlder}
 use Rattle.table_state.specs.Spares.{Spares}
 use Rattle.table_state.specs.Stands.{AreStored, IsReady, ShowsJobs, ShowsCursor, AreFilesBelow, AreTracked, ShowsOpen, Shows, numbers_at}
 use Rattle.table_commits.specs.Writing.{IsSameUse}
 use Rattle.table_state.specs.Promises.{KeepsPast}
-use Rattle.table_commits.proofs.SparedDisks.{kept_on, rooted_on, room_on}
-use Rattle.table_commits.proofs.StoredStays.{IsFileBelow, InUse, stored_on, cursors_on, jobs_on}
+use Rattle.table_commits.proofs.SparedDisks.{kept_on, rooted_on, room_on, root_older}
+use Rattle.table_commits.proofs.StoredStays.{IsFileBelow, file_older, InUse, stored_on, cursors_on, jobs_on}
 use Rattle.table_commits.proofs.FilesInUse.{current_in_use}
 use Rattle.table_commits.proofs.SoundDisks.{holds_like, sound_for}
 
@@ -32,6 +33,14 @@ past_on old mid new a b = record {
   history = λ m c l at. a.history m c l (b.history m c (omega (arith, l, a.later)) at);
   keeps = λ m c l at. b.keeps m c (omega (arith, l, a.later)) (a.keeps m c l at);
 }
+
+-- the root is older than the state, and so is each file under a number that was given
+module _ {D : Type 0} (state : D → DiskState) (store : Core D) (s : State) (shows : Shows state store s) where
+  pub root_is_older : IsOlder s.table.keys s.next_group root_path
+  root_is_older = root_older s.table.keys shows.apart s.next_group
+
+  pub file_is_older : (f : FileGroup) → IsFileBelow s.table.keys s.next_group f → IsOlder s.table.keys s.next_group (part_path_of s.table.keys f.key f.number)
+  file_is_older f low = file_older s.table.keys shows.apart s.next_group (let l = shows.counted in omega (arith, l)) f low
 
 module _ {D : Type 0} (state : D → DiskState) (store : Core D) (s : State) (shows : Shows state store s) (is_open : s.closed ≡ false) where
   abbrev disk : DiskState

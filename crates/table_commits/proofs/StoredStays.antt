@@ -1,5 +1,5 @@
 -- What is stored stays stored, over a call that spares it.
-use Rattle.std.proofs.Common.{◌≡◌, ◌≤◌, ◌<◌, ℕ, zero, suc, Bool, true, false, not, ◌&&◌, List, [], ◌∷◌, map, Some, refl, sym, ◌∙◌, ap, subst, arith}
+use Rattle.std.proofs.Common.{◌≡◌, ◌≤◌, ◌<◌, ◌^◌, ℕ, zero, suc, Bool, true, false, not, ◌&&◌, List, [], ◌∷◌, map, Some, refl, sym, ◌∙◌, ap, subst, arith}
 use Rattle.std.specs.Prelude.{Contains}
 use Rattle.std.specs.List.{AllZip, AllByRecursion, list_all}
 use Rattle.schema.specs.Shape.{Fields}
@@ -18,11 +18,11 @@ use Rattle.table_state.specs.declared.jobs.OpenCursor.{OpenCursor}
 use Rattle.table_state.specs.declared.jobs.Work.{Work}
 use Rattle.table_state.specs.declared.jobs.Work.TheVariants.{Append, Rewrite}
 use Rattle.planning.specs.declared.change.Sources.{Sources}
-use Rattle.table_state.specs.Paths.{IsPartBelow}
+use Rattle.table_state.specs.Paths.{IsPartBelow, IsOlder, PathsAreApart}
 use Rattle.table_state.specs.Spares.{Spares}
 use Rattle.table_state.specs.Stands.{IsStored, AreStored, AreWritten, AreWaiting, ShowsRun, ShowsWork, ShowsJob, ShowsCursor}
 use Rattle.table_commits.specs.Writing.{HoldsMore, HoldMore}
-use Rattle.table_commits.proofs.SparedDisks.{kept_on}
+use Rattle.table_commits.proofs.SparedDisks.{kept_on, part_older}
 use Rattle.table_commits.proofs.FilesInUse.{cursor_in_use, written_in_use, sources_in_use}
 
 -- a file that a table with these keys can have, under a number below the count
@@ -31,6 +31,9 @@ IsFileBelow keys count f = CanPartition keys f.key × (f.number < count)
 
 pub part_below : (keys : List KeyColumn) (count : ℕ) (f : FileGroup) → IsFileBelow keys count f → IsPartBelow keys count (part_path_of keys f.key f.number)
 part_below keys count f low = record { key = f.key; number = f.number; can = low.0; below = low.1; is = refl }
+
+pub file_older : (keys : List KeyColumn) → PathsAreApart → (count : ℕ) → count ≤ 2 ^ 64 → (f : FileGroup) → IsFileBelow keys count f → IsOlder keys count (part_path_of keys f.key f.number)
+file_older keys apart count small f low = part_older keys apart count small (part_path_of keys f.key f.number) (part_below keys count f low)
 
 pub stored_below : (disk : DiskState) (keys : List KeyColumn) (schema : Fields) (count : ℕ) (file : FileGroup) (g : Group) → IsStored disk keys schema count file g → IsFileBelow keys count file
 stored_below disk keys schema count file g is = (is.can, is.below)

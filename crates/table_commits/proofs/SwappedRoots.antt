@@ -26,19 +26,20 @@ use Rattle.table_state.specs.declared.jobs.OpenJob.{OpenJob}
 use Rattle.std.specs.Prelude.{Vec, reverse, IfErr}
 use Rattle.std.specs.declared.alloc.Global.{Global}
 use Rattle.lists.proofs.Booleans.{and_first as both}
-use Rattle.table_state.specs.Paths.{IsPartBelow, IsBelow}
+use Rattle.table_state.specs.Paths.{IsPartBelow, IsOlder}
 use Rattle.table_state.specs.OnDisk.{HoldsTable}
 use Rattle.table_state.specs.Spares.{Agrees, IsPlace, Spares, HasRoom}
 use Rattle.table_state.specs.Lookups.{jobs_left}
 use Rattle.table_state.specs.Stands.{AreStored, IsReady, ShowsJob, ShowsJobs, ShowsCursor, AreFilesBelow, AreNumbered, AreTracked, TracksJobs, ShowsOpen, Shows, numbers_at, job_numbers, written_in}
 use Rattle.table_commits.specs.Committing.{turned, doubted, TurnsInto, IsTurnTo, Turns}
-use Rattle.table_commits.proofs.SparedDisks.{rooted_on, room_on, swap_spares, below_not_next, off_place}
+use Rattle.table_commits.proofs.SparedDisks.{rooted_on, room_on, swap_spares, off_place}
 use Rattle.table_commits.proofs.OpenNumbers.{tracks_left, numbered_left, numbers_shown}
 use Rattle.table_commits.proofs.NumbersOfJobs.{parted_left}
 use Rattle.table_commits.proofs.StoredStays.{part_below, Any, all_any, stored_on, cursors_on, jobs_on, hold_same}
 use Rattle.table_commits.proofs.SoundDisks.{holds_like, sound_for, sound_for_either}
 use Rattle.table_commits.proofs.PartFilesWritten.{failed, cause_at, same_use}
-use Rattle.table_commits.proofs.StateCarriedOver.{past_of, carried, survives_spared, shown, ready}
+use Rattle.table_commits.proofs.StateCarriedOver.{root_is_older, file_is_older, past_of, carried, survives_spared, shown, ready}
+use Rattle.table_commits.proofs.OlderFiles.{kept_spared, kept_swapped}
 use Rattle.table_commits.proofs.TrackedFiles.{tracked_after_swap, tracked_committed}
 
 -- a version whose groups are stored names only files below the count
@@ -84,6 +85,7 @@ module _ {D : Type 0} (state : D → DiskState) (store : Core D) (s : State) (t 
     parts_spare : Spares keys (IsPartBelow keys s.next_group) disk new
     parts_spare = record {
       moments = widens (Swaps turn.root.items) (Agrees (IsPartBelow keys s.next_group)) disk new (λ u v change q low. let off = part_off q low in change.others q off.0 off.1) swaps.moments;
+      seen = λ q low other. let off = part_off q low in swaps.seen.others q off.0 off.1;
       rooted = swaps.rooted;
       clear = λ q place. swaps.clear q (off_place keys shows.apart q place);
     }
@@ -95,18 +97,19 @@ module _ {D : Type 0} (state : D → DiskState) (store : Core D) (s : State) (t 
 
     pub turn_refused : (e : Refusal) → result ≡ failed T e → e ≢ InDoubt → LeavesAfter (AllBut next_path) disk new → Turns state store (record store { vault = vault }) s t jobs (failed T e)
     turn_refused e result_is other left =
-        let spares = swap_spares keys shows.apart (IsBelow keys s.next_group) turn.root.items disk new result (below_not_next keys shows.apart s.next_group (let l = shows.counted in omega (arith, l))) swaps left in
+        let spares = swap_spares keys shows.apart (IsOlder keys s.next_group) turn.root.items disk new result (λ q older. older.not_next) swaps left in
         record {
           after_it = s;
           is = is_same e other;
           shows = subst (λ (n : ℕ). Shows state (record store { vault = vault }) (record s { next_group = n })) shows.next_group
-              (carried state store s shows is_open vault store.snapshots store.next_group (let e = shows.next_group in omega (arith, e)) (let e = shows.next_group in let l = shows.counted in omega (arith, e, l)) (IsBelow keys s.next_group) (inl refl) (λ f low held. inr (part_below keys s.next_group f low)) spares
+              (carried state store s shows is_open vault store.snapshots store.next_group (let e = shows.next_group in omega (arith, e)) (let e = shows.next_group in let l = shows.counted in omega (arith, e, l)) (IsOlder keys s.next_group) (root_is_older state store s shows) (λ f low held. file_is_older state store s shows f low) spares
               (same_use (state_of store.snapshots) (state_of store.snapshots) refl) (λ f there. let l = here.files f there in let e = shows.next_group in omega (arith, l, e))
               store.clean (λ clean. tracked_after_swap (root_of store.manifest).keys (state_of store.snapshots) (state_of store.snapshots) (λ f there. there) shows.apart turn.root.items disk new swaps.seen (here.tracked clean)));
-          survives = survives_spared state store s shows is_open (IsBelow keys s.next_group) (inl refl) (λ f low held. inr (part_below keys s.next_group f low)) new spares s refl;
+          survives = survives_spared state store s shows is_open (IsOlder keys s.next_group) (root_is_older state store s shows) (λ f low held. file_is_older state store s shows f low) new spares s refl;
           past = past_of disk new left;
           cause = ⊎_elim (λ is. cause_at _ Device e (λ h. h) (failed_by e result_is) is) (λ is. absurd (other is));
           doubt = λ is. absurd (other is);
+          kept = λ keeps. kept_spared state store (record store { vault = vault }) s keeps spares;
         }
       where
         is_same : (f : Refusal) → f ≢ InDoubt → TurnsInto (failed T f) s t jobs s
@@ -253,6 +256,7 @@ module _ {D : Type 0} (state : D → DiskState) (store : Core D) (s : State) (t 
         past = past_of disk new swaps.moments;
         cause = tt;
         doubt = tt;
+        kept = λ keeps. kept_swapped state store (record store { vault = vault; manifest = turn.manifest; snapshots = snapshots; jobs = left }) s turn.root.items result keeps swaps;
       }
 
     each_root : (c : Image) → may_leave new c → (content c root_path ≡ Some here.root) ⊎ (content c root_path ≡ Some turn.root.items)
@@ -291,4 +295,5 @@ module _ {D : Type 0} (state : D → DiskState) (store : Core D) (s : State) (t 
           past = past_of disk new swaps.moments;
           cause = λ is. cause_at _ InDoubt e (λ h. h) (failed_by e result_is) doubt;
           doubt = λ is. (turn.root.items, next_kept e result_is doubt);
+          kept = λ keeps. kept_swapped state store (record store { vault = vault; closed = true }) s turn.root.items result keeps swaps;
         }

@@ -11,9 +11,11 @@ use Rattle.table.proofs.Steady.{is_other, stays, is_shut}
 use Rattle.table_state.specs.declared.standing.Core.{Core}
 use Rattle.table_state.specs.OnDisk.{HoldsTable}
 use Rattle.table_state.specs.Stands.{Shows, Stands}
-use Rattle.table_state.specs.Promises.{KeepsPast, ActsFrom, Acts}
+use Rattle.table_state.specs.Promises.{KeepsPast, IsOlderFile, ActsFrom, Acts}
 use Rattle.table_commits.proofs.OneCallMore.{reached_on}
+use Rattle.table_commits.proofs.DisksLeftAlone.{all_here}
 use Rattle.table_commits.proofs.DoubtCloses.{no_doubt}
+use Rattle.table_commits.proofs.OlderFiles.{kept_read}
 
 module _ {D : Type 0} (state : D → DiskState) (store : Core D) where
   abbrev disk : DiskState
@@ -33,7 +35,7 @@ module _ {D : Type 0} (state : D → DiskState) (store : Core D) where
   same_past = record { later = omega arith; history = λ m c l at. at; keeps = λ m c l at. at }
 
   pub changes_nothing : (call : Call) (answer : Answer) (s : State) → Stands state store s → Happens s call answer s → ActsFrom state store store call answer s
-  changes_nothing call answer s stands happens = record { after = s; happens = happens; survives = survived s stands.shows; stands = stands; past = same_past; doubt = no_doubt s call answer s happens refl }
+  changes_nothing call answer s stands happens = record { after = s; happens = happens; survives = survived s stands.shows; stands = stands; past = same_past; doubt = no_doubt s call answer s happens refl; kept = λ keeps. kept_read state store store (IsOlderFile s) keeps (all_here disk) }
 
   pub acts_shut : (call : Call) → is_other call ≡ true → store.closed ≡ true → Acts state store store call (refused Closed)
   acts_shut call o e honest s stands =
@@ -84,4 +86,5 @@ module _ {D : Type 0} (state : D → DiskState) (store : Core D) where
         };
         past = same_past;
         doubt = λ is. absurd (cc);
+        kept = λ keeps. kept_read state store (record store { closed = true }) (IsOlderFile s) keeps (all_here disk);
       }

@@ -13,18 +13,19 @@ use Rattle.table.specs.Refusing.{Happens, gets_on, needs_memory, needs_disk, Sta
 use Rattle.table.specs.Limits.{IsOver, MayBeOver}
 use Rattle.table.specs.Views.{answered}
 use Rattle.table_state.specs.declared.standing.Core.{Core}
-use Rattle.table_state.specs.Paths.{IsBelow}
+use Rattle.table_state.specs.Paths.{IsOlder}
 use Rattle.table_state.specs.Spares.{Spares}
 use Rattle.table_state.specs.Stands.{Shows, Stands, ShowsJobs}
 use Rattle.table_commits.specs.Writing.{counted}
 use Rattle.table_commits.specs.Committing.{Turns}
 use Rattle.table_state.specs.Promises.{ActsFrom}
 
--- So far a call wrote files under numbers from its start's counter on, and nothing else changed: the open jobs have only
+-- So far a call wrote files under numbers from its start's counter on, and no other file changed: the open jobs have only
 -- files below it.
 pub record WroteTo {D : Type 0} (state : D → DiskState) (old new : Core D) (s : State) (counter : ℕ) : Type 0 where
   pub rises : s.next_group ≤ counter
-  pub spares : Spares s.table.keys (IsBelow s.table.keys s.next_group) (state old.vault.disk) (state new.vault.disk)
+  pub keeps : new.keeps ≡ old.keeps
+  pub spares : Spares s.table.keys (IsOlder s.table.keys s.next_group) (state old.vault.disk) (state new.vault.disk)
   pub shows : Shows state new (counted s counter)
   pub jobs : ShowsJobs (state new.vault.disk) (state_of new.snapshots) s new.jobs.items s.jobs
 

@@ -17,7 +17,7 @@ use Rattle.table_commits.specs.declared.turn.Turn.{Turn}
 use Rattle.table_state.specs.OnDisk.{HoldsTable}
 use Rattle.table_state.specs.Lookups.{jobs_left}
 use Rattle.table_state.specs.Stands.{AreStored, IsReady, ShowsJob, Shows}
-use Rattle.table_state.specs.Promises.{KeepsPast, WasNextKept}
+use Rattle.table_state.specs.Promises.{KeepsPast, WasNextKept, IsOlderFile, KeepsFiles}
 
 -- the state after a commit to this table, which leaves these jobs
 abbrev pub turned : State → Table → List (ℕ × Job) → State
@@ -83,3 +83,5 @@ pub record Turns {D T : Type 0} (state : D → DiskState) (old new : Core D) (s 
   pub cause : IfErr result (λ e. (e ≡ Device) ⊎ (e ≡ InDoubt) → HasFailed (state old.vault.disk) (state new.vault.disk))
   -- in doubt only after a next root was whole
   pub doubt : IfErr result (λ e. e ≡ InDoubt → WasNextKept (state old.vault.disk) (state new.vault.disk))
+  -- a store that keeps what is replaced leaves each older file alone
+  pub kept : old.keeps ≡ true → KeepsFiles state old new (IsOlderFile s)

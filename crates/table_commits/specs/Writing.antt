@@ -24,7 +24,7 @@ use Rattle.table.specs.Table.{Row, Key, Group}
 use Rattle.table.specs.State.{State}
 use Rattle.table_state.specs.declared.standing.Core.{Core}
 use Rattle.table_commits.specs.declared.part.Part.{Part}
-use Rattle.table_state.specs.Paths.{IsBelow}
+use Rattle.table_state.specs.Paths.{IsOlder}
 use Rattle.table_state.specs.Spares.{Spares}
 use Rattle.table_state.specs.Stands.{IsStored, Shows, numbers_at}
 
@@ -59,11 +59,12 @@ IsHeldFor None versions g = Unit {0}
 IsHeldFor (Some n) versions g = (pins : Pins) × (open_at n versions.jobs ≡ Some pins) × (is_among pins.files (file_of g) ≡ true)
 
 -- From the one state, a part file of these rows was written for a job or for none, or not: the counter went up by one, or
--- not at all; all files below it are as they were, at every moment; and after Ok the new one is there.
+-- not at all; all older files are as they were, at every moment; and after Ok the new one is there.
 pub record Writes {D : Type 0} (state : D → DiskState) (old new : Core D) (job : Option ℕ) (key : Key) (rows : List Row) (result : Result (Rc CodeGroup Global) Refusal) (s : State) : Type 0 where
   pub no_less : old.next_group ≤ new.next_group
   pub no_more : new.next_group ≤ old.next_group + 1
-  pub spares : Spares s.table.keys (IsBelow s.table.keys s.next_group) (state old.vault.disk) (state new.vault.disk)
+  pub keeps : new.keeps ≡ old.keeps
+  pub spares : Spares s.table.keys (IsOlder s.table.keys s.next_group) (state old.vault.disk) (state new.vault.disk)
   pub shows : Shows state new (counted s new.next_group)
   pub in_use : IsSameUse (state_of old.snapshots) (state_of new.snapshots)
   pub stored : IfOk result (λ g. IsStored (state new.vault.disk) s.table.keys s.table.schema new.next_group (group_view (rc_value g)) (new_group s key rows))

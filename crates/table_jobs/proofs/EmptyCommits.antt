@@ -169,8 +169,8 @@ module _ {D : Type 0} (state : D → DiskState) (store : Core D) (s : State) (st
 
     pub empty_done : (snapshots : Snapshots) → state_of snapshots ≡ after (state_of store.snapshots) (ended n) → (jobs : Vec OpenJob Global) → jobs.items ≡ jobs_left (Some n) store.jobs.items → (new : Core D)
         → ((t : State) → Shows state (record store { snapshots = snapshots; jobs = jobs }) t → t.closed ≡ false → Clears state (record store { snapshots = snapshots; jobs = jobs }) new t)
-        → ActsFrom state store new (commit n) (done 0) s
-    empty_done snapshots steps jobs left new clears =
+        → (store.keeps ≡ true → new ≡ record store { snapshots = snapshots; jobs = jobs }) → ActsFrom state store new (commit n) (done 0) s
+    empty_done snapshots steps jobs left new clears still =
         let next = record s { jobs = ended_at n s.jobs } in
         let is : IsDone s (commit n) (done 0) next = record {
           n = 0;
@@ -180,4 +180,4 @@ module _ {D : Type 0} (state : D → DiskState) (store : Core D) (s : State) (st
           answers = refl;
           becomes = ap (λ (h : ℕ → Bool). record s { jobs = ended_at n s.jobs; had = h }) (sym (had_same s stands.reached));
         } in
-        ends state store s stands is_open (commit n) (done 0) next (unfaulted, is) refl snapshots jobs store.cursors new (clears next (job_ended state store s stands is_open n snapshots steps jobs left) is_open)
+        ends state store s stands is_open (commit n) (done 0) next (unfaulted, is) refl snapshots jobs store.cursors new (clears next (job_ended state store s stands is_open n snapshots steps jobs left) is_open) still

@@ -76,11 +76,11 @@ module _ {D : Type 0} (state : D → DiskState) (old : Core D) (s : State) (stan
 
     pub stale_done : fault s (commit n) ≡ Some Stale → (snapshots : Snapshots) → state_of snapshots ≡ after (state_of old.snapshots) (ended n) → (jobs : Vec OpenJob Global) → jobs.items ≡ jobs_left (Some n) old.jobs.items → (new : Core D)
         → ((t : State) → Shows state (record old { snapshots = snapshots; jobs = jobs }) t → t.closed ≡ false → Clears state (record old { snapshots = snapshots; jobs = jobs }) new t)
-        → ActsFrom state old new (commit n) (refused Stale) s
-    stale_done gone snapshots steps jobs left new clears =
+        → (old.keeps ≡ true → new ≡ record old { snapshots = snapshots; jobs = jobs }) → ActsFrom state old new (commit n) (refused Stale) s
+    stale_done gone snapshots steps jobs left new clears still =
         let next = record s { jobs = ended_at n s.jobs } in
         let happens : Happens s (commit n) (refused Stale) next = refused_stale gone refl refl in
-        ends state old s stands is_open (commit n) (refused Stale) next happens refl snapshots jobs old.cursors new (clears next (job_ended state old s stands is_open n snapshots steps jobs left) is_open)
+        ends state old s stands is_open (commit n) (refused Stale) next happens refl snapshots jobs old.cursors new (clears next (job_ended state old s stands is_open n snapshots steps jobs left) is_open) still
 
     -- ---- all are there
 

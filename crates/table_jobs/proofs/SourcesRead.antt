@@ -25,7 +25,7 @@ use Rattle.table_state.specs.declared.standing.Core.{Core}
 use Rattle.table_state.specs.declared.jobs.OpenJob.{OpenJob}
 use Rattle.table_jobs.specs.Completing.{completed_rows}
 use Rattle.table_reads.specs.Counting.{IsHeld}
-use Rattle.table_state.specs.Paths.{IsBelow}
+use Rattle.table_state.specs.Paths.{IsOlder}
 use Rattle.table_state.specs.Spares.{Spares}
 use Rattle.table_state.specs.Stands.{IsStored, AreStored}
 use Rattle.table_commits.specs.Writing.{counted}
@@ -36,7 +36,7 @@ use Rattle.table_jobs.specs.Rewritten.{IsSource, AreSources, kept_at, IsHalted}
 use Rattle.table_commits.proofs.OneFileMore.{failed_since}
 use Rattle.table_commits.proofs.AfterCleanings.{read_still}
 use Rattle.table_commits.proofs.SparedDisks.{spares_on, spares_less, read_spares}
-use Rattle.table_commits.proofs.StoredStays.{part_below, Any, all_any, stored_on, jobs_on, hold_same}
+use Rattle.table_commits.proofs.StoredStays.{file_older, Any, all_any, stored_on, jobs_on, hold_same}
 
 -- ---- a source
 
@@ -45,7 +45,7 @@ module _ {D : Type 0} (state : D → DiskState) (start mid : Core D) (s : State)
   root = root_of mid.manifest
 
   stored_there : (f : FileGroup) (g : Group) → IsStored (state start.vault.disk) s.table.keys s.table.schema s.next_group f g → AreStored (state mid.vault.disk) s.table.keys s.table.schema s.next_group (f ∷ []) (g ∷ [])
-  stored_there f g z = stored_on s.table.keys s.next_group s.next_group (omega arith) Any (IsBelow s.table.keys s.next_group) (λ h low held. inr (part_below s.table.keys s.next_group h low)) (state start.vault.disk) (state mid.vault.disk) has.wrote.spares s.table.schema
+  stored_there f g z = stored_on s.table.keys s.next_group s.next_group (omega arith) Any (IsOlder s.table.keys s.next_group) (λ h low held. file_older s.table.keys has.wrote.shows.apart s.next_group (let l = has.wrote.shows.counted in let r = has.wrote.rises in omega (arith, l, r)) h low) (state start.vault.disk) (state mid.vault.disk) has.wrote.spares s.table.schema
       (f ∷ []) (g ∷ []) (all_any (f ∷ [])) (z, tt)
 
   abbrev Held : FileGroup → Group → List KeyColumn → Fields → Type 0
@@ -84,8 +84,9 @@ module _ {D : Type 0} (state : D → DiskState) (start mid : Core D) (s : State)
     wrote_so : WroteTo state start read_store s mid.next_group
     wrote_so = record {
       rises = has.wrote.rises;
-      spares = spares_on s.table.keys (IsBelow s.table.keys s.next_group) (state start.vault.disk) (state mid.vault.disk) (state vault.disk) has.wrote.spares
-          (spares_less s.table.keys (λ q. Unit {0}) (IsBelow s.table.keys s.next_group) (λ path need. tt) (state mid.vault.disk) (state vault.disk) spared);
+      keeps = has.wrote.keeps;
+      spares = spares_on s.table.keys (IsOlder s.table.keys s.next_group) (state start.vault.disk) (state mid.vault.disk) (state vault.disk) has.wrote.spares
+          (spares_less s.table.keys (λ q. Unit {0}) (IsOlder s.table.keys s.next_group) (λ path need. tt) (state mid.vault.disk) (state vault.disk) spared);
       shows = (read_still state mid (counted s mid.next_group) has.wrote.shows is_open vault leaves).shows;
       jobs = jobs_on s.table.keys s.table.schema s.next_group s.next_group s.options.group_rows (omega arith) s.had s.had (λ m low e. e) versions versions (λ q. Unit {0}) (λ f low held. tt) (state mid.vault.disk) (state vault.disk) spared
           (hold_same versions.jobs versions.jobs refl) mid.jobs.items s.jobs has.wrote.jobs;

@@ -1,5 +1,5 @@
 -- Rows that are staged: the writing begins, and the job has them.
-use Rattle.std.proofs.Common.{◌≡◌, ◌≤◌, ◌+◌, ◌*◌, ℕ, Bool, true, false, not, ◌&&◌, List, [], ◌∷◌, ◌++◌, map, flat_map, length, take, drop, Option, Some, None, refl, sym, ◌∙◌, ap, subst, arith, inl, inr, append_assoc, add-mul as both_times}
+use Rattle.std.proofs.Common.{◌≡◌, ◌≤◌, ◌+◌, ◌*◌, ℕ, Bool, true, false, not, ◌&&◌, List, [], ◌∷◌, ◌++◌, map, flat_map, length, take, drop, Option, Some, None, refl, sym, ◌∙◌, ap, subst, arith, append_assoc, add-mul as both_times}
 use Rattle.std.specs.Prelude.{Vec, ◌==◌, IsTrue}
 use Rattle.std.specs.List.{AllByRecursion, AllZip, list_all}
 use Rattle.std.specs.declared.alloc.Global.{Global}
@@ -30,7 +30,7 @@ use Rattle.table_state.specs.declared.standing.Core.{Core}
 use Rattle.table_state.specs.declared.jobs.OpenJob.{OpenJob}
 use Rattle.table_state.specs.declared.jobs.Work.TheVariants.{Append}
 use Rattle.table_state.specs.declared.jobs.Appending.{Appending}
-use Rattle.table_state.specs.Paths.{IsBelow}
+use Rattle.table_state.specs.Paths.{IsOlder}
 use Rattle.table_state.specs.Lookups.{job_at, jobs_with}
 use Rattle.table_state.specs.Stands.{AreStored, AreWaiting, AreWritten, ShowsAppend, ShowsJob, ShowsOpen, Stands, written_in, written_of, job_numbers}
 use Rattle.table_commits.specs.Writing.{IsHeldFor, counted}
@@ -43,7 +43,8 @@ use Rattle.table_commits.proofs.CommitsFromParts.{refusals_act}
 use Rattle.table_commits.proofs.DistinctNumbers.{AllBelow, distinct_joined, none_joined}
 use Rattle.table_reads.proofs.SomethingOpens.{job_numbers_are}
 use Rattle.table_commits.proofs.AppendCommits.{all_fresh, no_number, stored_append, numbers_too}
-use Rattle.table_commits.proofs.StateCarriedOver.{past_of, survives_spared}
+use Rattle.table_commits.proofs.StateCarriedOver.{root_is_older, file_is_older, past_of, survives_spared}
+use Rattle.table_commits.proofs.OlderFiles.{kept_spared}
 use Rattle.table_commits.proofs.JobsChanged.{job_changed}
 use Rattle.table_reads.proofs.SomethingEnds.{found_open}
 use Rattle.table_commits.proofs.RowsFillGroups.{some_rows_fit}
@@ -54,7 +55,7 @@ use Rattle.table_commits.proofs.OneCallMore.{reached_on}
 use Rattle.table_jobs.proofs.WaitingGoesOn.{whole_of, begin_buffers, begin_few, begin_keys, begin_rows, waits_back, rows_back}
 use Rattle.table_commits.proofs.KeyOrder.{part_of, same_behind, same_before, sorted_part, part_append}
 use Rattle.table_jobs.proofs.StageGoesOn.{Held, held_in, sized, all_sized, keyed_stored, past_all, own_distinct}
-use Rattle.table_commits.proofs.StoredStays.{part_below, Any, all_any, stored_on}
+use Rattle.table_commits.proofs.StoredStays.{Any, all_any, stored_on}
 use Rattle.table_commits.proofs.WaitingRows.{rows_append, same_key_lists}
 use Rattle.table_commits.proofs.FilesSoFar.{wrote_nothing}
 
@@ -214,7 +215,7 @@ module _ {D : Type 0} (state : D → DiskState) (old : Core D) (s : State) (stan
       held_then = held_in state s n mid s.next_group wrote.jobs x a there_too is
 
       stored_then : AreStored now keys s.table.schema count (handles_view a.written.items) before
-      stored_then = stored_on keys s.next_group count wrote.rises Any (IsBelow keys s.next_group) (λ g low h. inr (part_below keys s.next_group g low)) disk now wrote.spares s.table.schema (handles_view a.written.items) before
+      stored_then = stored_on keys s.next_group count wrote.rises Any (IsOlder keys s.next_group) (λ g low h. file_is_older state old s stands.shows g low) disk now wrote.spares s.table.schema (handles_view a.written.items) before
           (all_any (handles_view a.written.items)) held.shows.are_written.stored
 
       one_pins : (p : Option Pins) (b c : Pins) → p ≡ Some b → p ≡ Some c → b ≡ c
@@ -312,11 +313,12 @@ module _ {D : Type 0} (state : D → DiskState) (old : Core D) (s : State) (stan
         done_so jobs are = record {
           after = after;
           happens = happens;
-          survives = survives_spared state old s stands.shows is_open (IsBelow keys s.next_group) (inl refl) (λ g low h. inr (part_below keys s.next_group g low)) now wrote.spares after refl;
+          survives = survives_spared state old s stands.shows is_open (IsOlder keys s.next_group) (root_is_older state old s stands.shows) (λ g low h. file_is_older state old s stands.shows g low) now wrote.spares after refl;
           stands = record {
             reached = reached_on s stands.reached (stage n given) accepted after happens;
             shows = job_changed state mid (counted s count) wrote.shows is_open y (appending (staged ++ given)) shown jobs (are ∙ put_changes n (Append b) mid.jobs.items apart_jobs) apart_then;
           };
           past = past_of disk now wrote.spares.moments;
           doubt = λ is. absurd (cc);
+          kept = λ keeps. kept_spared state old (record mid { jobs = jobs }) s (wrote.keeps ∙ keeps) wrote.spares;
         }

@@ -29,7 +29,7 @@ use Rattle.table_state.specs.declared.standing.Core.{Core}
 use Rattle.table_state.specs.declared.jobs.OpenJob.{OpenJob}
 use Rattle.table_state.specs.declared.jobs.Work.TheVariants.{Append}
 use Rattle.table_state.specs.declared.jobs.Appending.{Appending}
-use Rattle.table_state.specs.Paths.{IsBelow}
+use Rattle.table_state.specs.Paths.{IsOlder}
 use Rattle.table_state.specs.Lookups.{job_at, jobs_left}
 use Rattle.table_state.specs.Stands.{IsStored, AreStored, ShowsJob, ShowsOpen, Stands, written_of}
 use Rattle.table_commits.specs.Writing.{counted}
@@ -46,10 +46,11 @@ use Rattle.table_commits.proofs.GroupsByKey.{rows_in_order, groups_keyed, all_fu
 use Rattle.table_commits.proofs.NumbersHad.{had_all}
 use Rattle.table_commits.proofs.NumbersOfJobs.{numbers_written, numbers_joined, files_below, written_below}
 use Rattle.table_commits.proofs.KeyOrder.{same_behind}
+use Rattle.table_commits.proofs.StateCarriedOver.{file_is_older}
 use Rattle.table_commits.proofs.SparedDisks.{spares_here}
 use Rattle.table_jobs.proofs.StageEnds.{held, before, wait}
 use Rattle.table_jobs.proofs.StageGoesOn.{Held, held_in, sized, own_distinct}
-use Rattle.table_commits.proofs.StoredStays.{part_below, Any, all_any, stored_on, jobs_on, hold_same}
+use Rattle.table_commits.proofs.StoredStays.{Any, all_any, stored_on, jobs_on, hold_same}
 use Rattle.table_commits.proofs.WaitingRows.{rows_append}
 
 -- ---- groups that are stored are groups of the table
@@ -127,7 +128,7 @@ module _ {D : Type 0} (state : D → DiskState) (old : Core D) (s : State) (stan
     held_then = held_in state s n mid s.next_group wrote.jobs x a there_too is
 
     stored_then : AreStored now keys s.table.schema count old_files olds
-    stored_then = stored_on keys s.next_group count wrote.rises Any (IsBelow keys s.next_group) (λ g low h. inr (part_below keys s.next_group g low)) (state old.vault.disk) now wrote.spares s.table.schema old_files olds
+    stored_then = stored_on keys s.next_group count wrote.rises Any (IsOlder keys s.next_group) (λ g low h. file_is_older state old s stands.shows g low) (state old.vault.disk) now wrote.spares s.table.schema old_files olds
         (all_any old_files) here_held.shows.are_written.stored
 
     old_sized : AllByRecursion (HasSize size) olds

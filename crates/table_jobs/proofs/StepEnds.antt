@@ -37,7 +37,7 @@ use Rattle.table_jobs.specs.Completing.{with_work}
 use Rattle.table_reads.specs.Counting.{IsHeld}
 use Rattle.table_state.specs.Stands.{ShowsRewrite, ShowsWork, ShowsJob, ShowsOpen, Shows, Stands, written_in, job_numbers}
 use Rattle.table_reads.specs.Stepping.{is_rewrite, finds_rewrite, next_at, next_in, source_in, HasRead}
-use Rattle.table_state.specs.Promises.{ActsFrom}
+use Rattle.table_state.specs.Promises.{IsOlderFile, ActsFrom}
 use Rattle.table_jobs.proofs.JobChecks.{not_low}
 use Rattle.table_reads.proofs.SomethingOpens.{job_numbers_are}
 use Rattle.table_commits.proofs.JobsChanged.{job_changed}
@@ -47,6 +47,7 @@ use Rattle.table_reads.proofs.FetchesWithoutCursor.{changed_same}
 use Rattle.table_commits.proofs.NumbersOfJobs.{WritesOn, parted_changed, written_below}
 use Rattle.table_jobs.proofs.WorkReplaced.{put_changes}
 use Rattle.table_commits.proofs.OneCallMore.{reached_on}
+use Rattle.table_commits.proofs.OlderFiles.{kept_read}
 use Rattle.table_commits.proofs.UnchangedRefusals.{changes_nothing}
 use Rattle.table_jobs.proofs.SourceBySource.{AtPlace, next_there, nothing_left, same_shown, rest, read_more, takes_one, more_left, held_alone}
 
@@ -283,6 +284,7 @@ module _ {D : Type 0} (state : D → DiskState) (store : Core D) (s : State) (st
                 };
                 past = still.past;
                 doubt = λ is. absurd (cc);
+                kept = λ keeps. kept_read state store (record mid { jobs = js }) (IsOlderFile s) keeps leaves;
               }
 
           -- the rows are kept
@@ -324,6 +326,7 @@ module _ {D : Type 0} (state : D → DiskState) (store : Core D) (s : State) (st
                   stands = record { reached = reached_on s stands.reached call (more b) after happens; shows = stands_in left shown };
                   past = still.past;
                   doubt = λ is. absurd (cc);
+                  kept = λ keeps. kept_read state store (record mid { jobs = js }) (IsOlderFile s) keeps leaves;
                 }
 
         -- what the code has kept

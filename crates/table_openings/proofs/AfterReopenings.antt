@@ -9,6 +9,7 @@ use Rattle.disk.specs.State.{Image, State as DiskState, content, may_leave}
 use Rattle.vault.specs.declared.vault.Vault.{Vault}
 use Rattle.vault.specs.Views.{View, LeavesAfter}
 use Rattle.vault.specs.Ways.{LeavesWays}
+use Rattle.vault.specs.Calls.{LeavesAll}
 use Rattle.manifest.specs.declared.description.Manifest.{Manifest}
 use Rattle.manifest.specs.Groups.{root_of}
 use Rattle.manifest.specs.Table.{IsTableOf}
@@ -25,10 +26,11 @@ use Rattle.table_state.specs.declared.standing.Core.{Core}
 use Rattle.table_state.specs.OnDisk.{HoldsTable}
 use Rattle.table_state.specs.Spares.{HasRoom}
 use Rattle.table_state.specs.Stands.{Shows, Stands}
-use Rattle.table_state.specs.Promises.{ActsFrom}
+use Rattle.table_state.specs.Promises.{IsOlderFile, ActsFrom}
 use Rattle.table_state.specs.Starting.{IsStarted}
 use Rattle.table_commits.proofs.StateCarriedOver.{past_of}
 use Rattle.table_commits.proofs.OneCallMore.{reached_on}
+use Rattle.table_commits.proofs.OlderFiles.{kept_read}
 use Rattle.table_commits.specs.Cleaning.{IsTidy}
 use Rattle.table_commits.proofs.NeededFiles.{clean_is_tidy}
 use Rattle.table_openings.proofs.StartedStores as started
@@ -51,7 +53,8 @@ pub no_failure : (e : Refusal) → HasCause (λ _. ⊥) e → is_failure (refuse
 no_failure e cause told = let f : false ≡ true = subst (λ (x : Refusal). is_failure (refused x) ≡ true) (memory_only e cause) told in cc
 
 module _ {D : Type 0} (state : D → DiskState) (old : Core D) (s : State) (stands : Stands state old s) (vault : Vault D)
-    (moments : LeavesAfter SameTable (state old.vault.disk) (state vault.disk)) (sound : IsSound (state vault.disk)) (clear : LeavesWays (state old.vault.disk) (state vault.disk)) where
+    (moments : LeavesAfter SameTable (state old.vault.disk) (state vault.disk)) (sound : IsSound (state vault.disk)) (clear : LeavesWays (state old.vault.disk) (state vault.disk))
+    (left : old.keeps ≡ true → LeavesAll (state old.vault.disk) (state vault.disk)) where
   abbrev before : DiskState
   before = state old.vault.disk
 
@@ -115,12 +118,13 @@ module _ {D : Type 0} (state : D → DiskState) (old : Core D) (s : State) (stan
     stands = record { reached = reached_on s stands.reached reopen (refused e) shut (happens_shut e why); shows = closed_now };
     past = past_of before disk moments;
     doubt = λ is. ⊎_elim (λ a. absurd (cc)) (λ b. absurd (cc)) why;
+    kept = λ keeps. kept_read state old (record old { vault = vault; closed = true }) (IsOlderFile s) keeps (left keeps);
   }
 
   -- ---- it is done: nothing is open, and the store has one of the two tables
 
   module _ (new : Core D) (is : IsStarted old.options new) (there : new.vault ≡ vault) (described : IsDescribed disk (root_of new.manifest)) (seen_may : may_leave disk disk.seen)
-      (one_table : TablesAreOne) (fit : RowsOfPartsFit) (cleaned : new.clean ≡ true → IsClean (root_of new.manifest) disk) where
+      (one_table : TablesAreOne) (fit : RowsOfPartsFit) (cleaned : new.clean ≡ true → IsClean (root_of new.manifest) disk) (same_keeps : new.keeps ≡ old.keeps) where
     abbrev seen_holds : (t : Table) × HoldsTable disk.seen t × MayHold s t
     seen_holds = holds_now disk.seen seen_may
 
@@ -159,6 +163,7 @@ module _ {D : Type 0} (state : D → DiskState) (old : Core D) (s : State) (stan
       stands = stands_now;
       past = past_of before disk moments;
       doubt = λ is. absurd (cc);
+      kept = λ keeps. kept_read state old (record new { vault = vault }) (IsOlderFile s) (same_keeps ∙ keeps) (left keeps);
     })
 
   -- ---- either
@@ -168,10 +173,10 @@ module _ {D : Type 0} (state : D → DiskState) (old : Core D) (s : State) (stan
   cleaned_so manifest clean new same told is e = subst (λ (m : Manifest). IsClean (root_of m) disk) (sym same) (is (sym told ∙ e))
 
   pub anew : (manifest : Manifest) (clean : Bool) → (clean ≡ true → IsClean (root_of manifest) disk) → IsDescribed disk (root_of manifest) → may_leave disk disk.seen → TablesAreOne → RowsOfPartsFit → (result : Result (Unit {0}) Refusal) (new : Core D) → OnOk result (IsStarted old.options new) → new.vault ≡ vault
-      → OnOk result (new.manifest ≡ manifest) → OnOk result (new.clean ≡ clean) → OnErr result (new ≡ record old { vault = vault; closed = true }) → RefusedMemoryOnly result → ActsFrom state old new reopen (answered {T = Unit {0}} (λ _. accepted) result) s
-  anew manifest clean cleaned described seen_may one_table fit (Ok x) new is there same told unchanged which =
-      done_so new is there (subst (λ (m : Manifest). IsDescribed disk (root_of m)) (sym same) described) seen_may one_table fit (cleaned_so manifest clean new same told cleaned)
-  anew manifest clean cleaned described seen_may one_table fit (Err e) new is there same told unchanged which =
+      → OnOk result (new.manifest ≡ manifest) → OnOk result (new.clean ≡ clean) → new.keeps ≡ old.keeps → OnErr result (new ≡ record old { vault = vault; closed = true }) → RefusedMemoryOnly result → ActsFrom state old new reopen (answered {T = Unit {0}} (λ _. accepted) result) s
+  anew manifest clean cleaned described seen_may one_table fit (Ok x) new is there same told keeps_is unchanged which =
+      done_so new is there (subst (λ (m : Manifest). IsDescribed disk (root_of m)) (sym same) described) seen_may one_table fit (cleaned_so manifest clean new same told cleaned) keeps_is
+  anew manifest clean cleaned described seen_may one_table fit (Err e) new is there same told keeps_is unchanged which =
       subst (λ (st : Core D). ActsFrom state old st reopen (refused e) s) (sym unchanged) (refused_so e (inr (memory_only e which)))
 
   -- no file is left that nothing needs

@@ -1,5 +1,5 @@
 -- A job that is aborted, and a cursor that is closed.
-use Rattle.std.proofs.Common.{◌≡◌, ℕ, false, not, [], ◌∷◌, Option, Some, None, refl, sym, ◌∙◌, ap, subst}
+use Rattle.std.proofs.Common.{◌≡◌, ℕ, true, false, not, [], ◌∷◌, Option, Some, None, refl, sym, ◌∙◌, ap, subst}
 use Rattle.std.specs.Prelude.{Vec}
 use Rattle.std.specs.declared.alloc.Global.{Global}
 use Rattle.bits.specs.declared.refusal.Refusal.{Refusal}
@@ -63,11 +63,11 @@ module _ {D : Type 0} (state : D → DiskState) (store : Core D) (s : State) (st
 
     pub aborted : (snapshots : Snapshots) → state_of snapshots ≡ after (state_of store.snapshots) (ended n) → (jobs : Vec OpenJob Global) → jobs.items ≡ jobs_left (Some n) store.jobs.items → (new : Core D)
         → ((t : State) → Shows state (record store { snapshots = snapshots; jobs = jobs }) t → t.closed ≡ false → Clears state (record store { snapshots = snapshots; jobs = jobs }) new t)
-        → ActsFrom state store new (abort n) accepted s
-    aborted snapshots steps jobs left new clears =
+        → (store.keeps ≡ true → new ≡ record store { snapshots = snapshots; jobs = jobs }) → ActsFrom state store new (abort n) accepted s
+    aborted snapshots steps jobs left new clears still =
         let next = record s { jobs = ended_at n s.jobs } in
         let happens : Happens s (abort n) accepted next = (job_unfaulted, (refl, refl)) in
-        ends state store s stands is_open (abort n) accepted next happens refl snapshots jobs store.cursors new (clears next (job_ended state store s stands is_open n snapshots steps jobs left) is_open)
+        ends state store s stands is_open (abort n) accepted next happens refl snapshots jobs store.cursors new (clears next (job_ended state store s stands is_open n snapshots steps jobs left) is_open) still
 
   -- ---- a cursor
 
@@ -95,8 +95,8 @@ module _ {D : Type 0} (state : D → DiskState) (store : Core D) (s : State) (st
 
     pub is_closed : (snapshots : Snapshots) → state_of snapshots ≡ after (state_of store.snapshots) (closed n) → (cursors : Vec OpenCursor Global) → cursors.items ≡ cursors_left n store.cursors.items → (new : Core D)
         → ((t : State) → Shows state (record store { snapshots = snapshots; cursors = cursors }) t → t.closed ≡ false → Clears state (record store { snapshots = snapshots; cursors = cursors }) new t)
-        → ActsFrom state store new (close n) accepted s
-    is_closed snapshots steps cursors left new clears =
+        → (store.keeps ≡ true → new ≡ record store { snapshots = snapshots; cursors = cursors }) → ActsFrom state store new (close n) accepted s
+    is_closed snapshots steps cursors left new clears still =
         let next = record s { cursors = ended_at n s.cursors } in
         let happens : Happens s (close n) accepted next = (cursor_unfaulted, (refl, refl)) in
-        ends state store s stands is_open (close n) accepted next happens refl snapshots store.jobs cursors new (clears next (cursor_ended state store s stands is_open n snapshots steps cursors left) is_open)
+        ends state store s stands is_open (close n) accepted next happens refl snapshots store.jobs cursors new (clears next (cursor_ended state store s stands is_open n snapshots steps cursors left) is_open) still

@@ -36,13 +36,14 @@ use Rattle.table_commits.specs.Cleaning.{Clears}
 use Rattle.table_reads.specs.Passing.{Comes, batches_with, batches_from, moved, moved_at, GoesTo, Went, FetchReads}
 use Rattle.table_reads.proofs.ReadsOfPassedGroups.{goes_nowhere}
 use Rattle.snapshots.specs.State.{open_at as versions_at}
-use Rattle.table_state.specs.Promises.{ActsFrom}
+use Rattle.table_state.specs.Promises.{IsOlderFile, ActsFrom}
 use Rattle.table_commits.proofs.AfterCleanings.{read_still}
 use Rattle.table_reads.proofs.CursorsGoOn.{no_rows}
 use Rattle.table_reads.proofs.FetchesWithoutCursor.{cursor_found, changed_none, fault_is, sure, here as fetching_here}
 use Rattle.table_commits.proofs.OtherJobsAndCursors.{IsOpenSo, open_here, shows_open}
 use Rattle.table_commits.proofs.OneCallMore.{reached_on}
 use Rattle.table_commits.proofs.DoubtCloses.{no_doubt}
+use Rattle.table_commits.proofs.OlderFiles.{kept_read}
 
 module _ {D : Type 0} (state : D → DiskState) (store : Core D) (s : State) (stands : Stands state store s) (is_open : s.closed ≡ false) (vault : Vault D) (leaves : LeavesAll (state store.vault.disk) (state vault.disk)) where
   abbrev read_store : Core D
@@ -57,7 +58,7 @@ module _ {D : Type 0} (state : D → DiskState) (store : Core D) (s : State) (st
 
   -- so it does after a refusal
   pub stays_put : (call : Call) (answer : Answer) → Happens s call answer s → ActsFrom state store read_store call answer s
-  stays_put call answer happens = record { after = s; happens = happens; survives = still_so.survives; stands = record { reached = reached_on s stands.reached call answer s happens; shows = still_so.shows }; past = still_so.past; doubt = no_doubt s call answer s happens refl }
+  stays_put call answer happens = record { after = s; happens = happens; survives = still_so.survives; stands = record { reached = reached_on s stands.reached call answer s happens; shows = still_so.shows }; past = still_so.past; doubt = no_doubt s call answer s happens refl; kept = λ keeps. kept_read state store read_store (IsOlderFile s) keeps leaves }
 
 -- ---- what it comes to
 
@@ -273,6 +274,7 @@ module _ {D : Type 0} (state : D → DiskState) (store : Core D) (n : ℕ) (is_o
       };
       past = still_here.past;
       doubt = no_doubt s (fetch n) answer after happens_so refl;
+      kept = λ keeps. kept_read state store (record store { vault = vault; cursors = cursors }) (IsOlderFile s) keeps leaves;
     }
 
 -- ---- the cursor in the list, as it is found

@@ -19,13 +19,15 @@ use Rattle.table_state.specs.declared.jobs.OpenCursor.{OpenCursor}
 use Rattle.table_state.specs.Lookups.{jobs_left, cursors_left}
 use Rattle.table_state.specs.Stands.{AreNumbered, ShowsJob, ShowsCursor, ShowsOpen, Shows, Stands, numbers_at, job_numbers, cursor_numbers}
 use Rattle.table_commits.specs.Cleaning.{Clears}
-use Rattle.table_state.specs.Promises.{ActsFrom}
+use Rattle.table_state.specs.Promises.{IsOlderFile, KeepsFiles, ActsFrom}
 use Rattle.table_commits.proofs.OpenNumbers.{numbers_shown, cursor_numbers_shown, tracks_left, tracks_cursors_left, numbered_left, numbered_cursors_left}
 use Rattle.table_reads.proofs.AfterEvents.{jobs_left_shown, cursors_left_shown}
 use Rattle.table_commits.proofs.NumbersOfJobs.{parted_left}
 use Rattle.table_commits.proofs.OtherJobsAndCursors.{IsOpenSo, shows_open, shows_moved}
 use Rattle.table_commits.proofs.OneCallMore.{reached_on}
+use Rattle.table_commits.proofs.DisksLeftAlone.{all_here}
 use Rattle.table_commits.proofs.DoubtCloses.{no_doubt}
+use Rattle.table_commits.proofs.OlderFiles.{kept_read}
 use Rattle.table_commits.proofs.UnchangedRefusals.{survived, same_past}
 
 -- ---- look-ups
@@ -71,6 +73,7 @@ module _ {D : Type 0} (state : D → DiskState) (store : Core D) (s : State) (st
     stands = record { reached = stands.reached; shows = shows_moved state store s stands.shows is_open snapshots jobs cursors d e f };
     past = same_past state store;
     doubt = λ is. absurd (cc);
+    kept = λ keeps. kept_read state store (record store { snapshots = snapshots; jobs = jobs; cursors = cursors }) (IsOlderFile s) keeps (all_here disk);
   }
 
   -- ---- a call that opens or ends something
@@ -93,12 +96,14 @@ module _ {D : Type 0} (state : D → DiskState) (store : Core D) (s : State) (st
       stands = record { reached = reached_on s stands.reached call answer next happens; shows = shows };
       past = same_past state store;
       doubt = no_doubt s call answer next happens (sym shows.closed ∙ stands.shows.closed);
+      kept = λ keeps. kept_read state store (record store { snapshots = snapshots; jobs = jobs; cursors = cursors; next_job = next_job; next_cursor = next_cursor }) (IsOlderFile s) keeps (all_here disk);
     }
 
-    -- and then removes what nothing needs
+    -- and then removes what nothing needs, unless the store keeps what is replaced
     pub ends : next.closed ≡ s.closed → (snapshots : Snapshots) (jobs : Vec OpenJob Global) (cursors : Vec OpenCursor Global) (new : Core D)
-        → Clears state (record store { snapshots = snapshots; jobs = jobs; cursors = cursors }) new next → ActsFrom state store new call answer s
-    ends same snapshots jobs cursors new clears = record {
+        → Clears state (record store { snapshots = snapshots; jobs = jobs; cursors = cursors }) new next
+        → (store.keeps ≡ true → new ≡ record store { snapshots = snapshots; jobs = jobs; cursors = cursors }) → ActsFrom state store new call answer s
+    ends same snapshots jobs cursors new clears still = record {
       after = next;
       happens = happens;
       survives = record {
@@ -109,6 +114,8 @@ module _ {D : Type 0} (state : D → DiskState) (store : Core D) (s : State) (st
       stands = record { reached = reached_on s stands.reached call answer next happens; shows = clears.shows };
       past = clears.past;
       doubt = no_doubt s call answer next happens same;
+      kept = λ keeps. subst (λ (st : Core D). KeepsFiles state store st (IsOlderFile s)) (sym (still keeps))
+          (kept_read state store (record store { snapshots = snapshots; jobs = jobs; cursors = cursors }) (IsOlderFile s) keeps (all_here disk));
     }
 
   -- ---- the end of a job

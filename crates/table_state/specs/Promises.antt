@@ -1,9 +1,9 @@
 -- The words of the calls' contracts.
-use Rattle.std.specs.Prelude.{◌≡◌, ◌≤◌, ℕ, true, List, Result, Err}
+use Rattle.std.specs.Prelude.{◌≡◌, ◌≢◌, ◌≤◌, ℕ, true, List, Result, Err}
 use Rattle.bits.specs.declared.refusal.Refusal.{Refusal}
 use Rattle.bits.specs.declared.refusal.Refusal.TheVariants.{Closed, InDoubt}
 use Rattle.disk.specs.State.{Image, State as DiskState}
-use Rattle.vault.specs.Views.{WasKept, next_path}
+use Rattle.vault.specs.Views.{LeavesAfter, ReadsAs, WasKept, root_path, next_path}
 use Rattle.vault.specs.Calls.{HasFailed}
 use Rattle.table.specs.State.{State}
 use Rattle.table.specs.Calls.{Call, Answer, refused}
@@ -11,6 +11,8 @@ use Rattle.table.specs.Refusing.{Happens, is_failure}
 use Rattle.table.specs.Stops.{Survives}
 use Rattle.table_state.specs.declared.standing.Core.{Core}
 use Rattle.table_state.specs.OnDisk.{HoldsTable}
+use Rattle.table_state.specs.Paths.{IsOlder}
+use Rattle.table_state.specs.Spares.{Agrees}
 use Rattle.table_state.specs.Stands.{Stands}
 
 -- no earlier moment changes, so what was said of one stays true
@@ -23,6 +25,18 @@ pub record KeepsPast (old new : DiskState) : Type 0 where
 abbrev pub WasNextKept : DiskState → DiskState → Type 0
 WasNextKept old new = (root : List ℕ) × WasKept next_path root old new
 
+-- The path of a file that is older than the state, and not the root's: a part file's under a number that was given, or a path where no
+-- file of the table stands.
+abbrev pub IsOlderFile : State → List ℕ → Type 0
+IsOlderFile s path = IsOlder s.table.keys s.next_group path × (path ≢ root_path)
+
+-- The store keeps what is replaced, and of these files none is removed or written: at every moment each has in each image what it had, and
+-- it is read as it was.
+pub record KeepsFiles {D : Type 0} (state : D → DiskState) (old new : Core D) (Older : List ℕ → Type 0) : Type 0 where
+  pub keeps : new.keeps ≡ true
+  pub moments : LeavesAfter (Agrees Older) (state old.vault.disk) (state new.vault.disk)
+  pub seen : ReadsAs (Agrees Older) (state old.vault.disk) (state new.vault.disk)
+
 -- From the one state the call gives this answer and leads to a state that the store then stands in. A stop at any
 -- moment of it leaves a table of the one or of the other.
 pub record ActsFrom {D : Type 0} (state : D → DiskState) (old new : Core D) (call : Call) (answer : Answer) (s : State) : Type 0 where
@@ -33,6 +47,8 @@ pub record ActsFrom {D : Type 0} (state : D → DiskState) (old new : Core D) (c
   pub past : KeepsPast (state old.vault.disk) (state new.vault.disk)
   -- in doubt only after a next root was whole
   pub doubt : answer ≡ refused InDoubt → WasNextKept (state old.vault.disk) (state new.vault.disk)
+  -- a store that keeps what is replaced leaves each older file alone
+  pub kept : old.keeps ≡ true → KeepsFiles state old new (IsOlderFile s)
 
 -- on an honest disk, from each state that the store stands in
 abbrev pub Acts : {D : Type 0} → (D → DiskState) → Core D → Core D → Call → Answer → Type 0

@@ -1,7 +1,7 @@
 -- What a call leaves as it was.
-use Rattle.std.specs.Prelude.{◌≡◌, ◌⊎◌, ℕ, List}
+use Rattle.std.specs.Prelude.{◌≡◌, ◌≢◌, ◌⊎◌, ℕ, List}
 use Rattle.schema.specs.Keys.{KeyColumn}
-use Rattle.disk.specs.State.{State as DiskState}
+use Rattle.disk.specs.State.{State as DiskState, content}
 use Rattle.vault.specs.Views.{View, LeavesAfter, IsRooted, StaysRooted, root_path, next_path}
 use Rattle.vault.specs.Ways.{IsClearWay, StaysClear}
 use Rattle.table_state.specs.Paths.{IsPartPath}
@@ -14,10 +14,11 @@ Agrees Needed u v = (path : List ℕ) → Needed path → v path ≡ u path
 abbrev pub IsPlace : List KeyColumn → List ℕ → Type 0
 IsPlace keys path = (path ≡ root_path) ⊎ ((path ≡ next_path) ⊎ IsPartPath keys path)
 
--- At every moment from the one to the other, these paths have in each image what they had. No way to a place of the
--- table's files is blocked, and no write of the root is left open.
+-- At every moment from the one to the other, these paths have in each image what they had, and but for the root they are read as they
+-- were. No way to a place of the table's files is blocked, and no write of the root is left open.
 pub record Spares (keys : List KeyColumn) (Needed : List ℕ → Type 0) (old new : DiskState) : Type 0 where
   pub moments : LeavesAfter (Agrees Needed) old new
+  pub seen : (path : List ℕ) → Needed path → path ≢ root_path → content new.seen path ≡ content old.seen path
   pub rooted : IsRooted old → StaysRooted old new
   pub clear : (path : List ℕ) → IsPlace keys path → IsClearWay old path → StaysClear old new path
 

@@ -29,7 +29,7 @@ returns-clause-turns g c honest s t jobs shows is_open planned =
     let one = c.in_ok-take_turn.ensures.turns honest s t jobs shows is_open turn in
     let shown = shows_turned g.D.Disk.state old s t jobs shows is_open c.args.job root planned _ mid one in
     let two = c.let_go.ensures.clears (c.take_turn.ensures.honest.0 honest) _ shown is_open in
-    done_and_cleared g.D.Disk.state old s t jobs shows is_open c.args.job root planned _ tt mid c.let_go.new.store one two
+    done_and_cleared g.D.Disk.state old s t jobs shows is_open c.args.job root planned _ tt mid c.let_go.new.store one two c.let_go.ensures.keeps
 
 pub returns-clause-tidy : goal.returns-clause-tidy
 returns-clause-tidy g c honest s shows is_open keeps =

@@ -32,7 +32,7 @@ returns-clause-acts g c honest s stands =
     let some = is_there (λ j. j.now) c.find_job.result (job_at c.args.job c.as_slice.result.now) c.is_none.result c.is_none.ensures c.if-is_none.false c.find_job.ensures in
     let found = ap (job_at c.args.job) (sym c.as_slice.ensures.value) ∙ some.1 in
     aborted g.D.Disk.state old s stands (sym stands.shows.closed ∙ c.if-store.false) c.args.job some.0 found c.step.new.self c.in_ok-step.ensures.done c.end_job.new.jobs c.end_job.ensures c.let_go.new.store
-    (c.let_go.ensures.clears honest)
+    (c.let_go.ensures.clears honest) c.let_go.ensures.keeps
 
 pub returns-clause-tidy : goal.returns-clause-tidy
 returns-clause-tidy g c honest s stands keeps =

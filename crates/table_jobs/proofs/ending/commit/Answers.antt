@@ -44,7 +44,7 @@ returns-then-finds_nothing-clause-acts g c honest s stands =
     let low : s.next_group < 9223372036854775808 = let a = stands.shows.next_group in let b = c.if-store-ge-MOST_NUMBERS.false in omega (arith, a, b) in
     let nothing : finds_nothing (job_at n old.jobs.items) ≡ true = ap (λ js. finds_nothing (job_at n js)) (sym c.as_slice-2.ensures.value) ∙ sym c.finds_nothing.ensures ∙ c.if-finds_nothing.true in
     empty_done g.D.Disk.state old s stands (sym stands.shows.closed ∙ c.if-store.false) n nothing low c.step.new.self c.in_ok-step.ensures.done c.end_job.new.jobs c.end_job.ensures c.let_go.new.store
-    (c.let_go.ensures.clears honest)
+    (c.let_go.ensures.clears honest) c.let_go.ensures.keeps
 
 pub returns-then-finds_append-clause-acts : goal.returns-then-finds_append-clause-acts
 returns-then-finds_append-clause-acts g c honest s stands =

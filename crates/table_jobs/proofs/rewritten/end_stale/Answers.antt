@@ -16,4 +16,4 @@ returns-in_err-step-clause-acts g c honest s r stands is_open at gone =
 
 pub returns-clause-acts : goal.returns-clause-acts
 returns-clause-acts g c honest s r stands is_open at gone =
-    stale_done g.D.Disk.state c.args.store.now s stands is_open c.args.job r at gone c.step.new.self c.in_ok-step.ensures.done c.end_job.new.jobs c.end_job.ensures c.let_go.new.store (c.let_go.ensures.clears honest)
+    stale_done g.D.Disk.state c.args.store.now s stands is_open c.args.job r at gone c.step.new.self c.in_ok-step.ensures.done c.end_job.new.jobs c.end_job.ensures c.let_go.new.store (c.let_go.ensures.clears honest) c.let_go.ensures.keeps

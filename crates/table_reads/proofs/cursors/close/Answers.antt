@@ -33,7 +33,7 @@ returns-clause-acts g c honest s stands =
     let some = is_there (λ j. j.now) c.find_cursor.result (cursor_at c.args.cursor c.as_slice.result.now) c.is_none.result c.is_none.ensures c.if-is_none.false c.find_cursor.ensures in
     let found = ap (cursor_at c.args.cursor) (sym c.as_slice.ensures.value) ∙ some.1 in
     is_closed g.D.Disk.state old s stands (sym stands.shows.closed ∙ c.if-store.false) c.args.cursor some.0 found c.step.new.self c.in_ok-step.ensures.done c.end_cursor.new.cursors c.end_cursor.ensures c.let_go.new.store
-    (c.let_go.ensures.clears honest)
+    (c.let_go.ensures.clears honest) c.let_go.ensures.keeps
 
 pub returns-then-store-clause-leaves : goal.returns-then-store-clause-leaves
 returns-then-store-clause-leaves g c k = same g.D.Disk.state c.args.store.now
