@@ -23,8 +23,8 @@ pub fn cut_row(alloc: Global, places: &[usize], row: &Row) -> R<Row>
     Ok(Row { values })
 }
 
-/// A copy of the value at a place; Null where there is none.
-fn value_at(alloc: Global, row: &Row, at: usize) -> R<Value>
+/// A copy of the value at a place of a row; Null where there is none. It fails only when out of memory.
+pub fn value_at(alloc: Global, row: &Row, at: usize) -> R<Value>
     ensures is { IfOk result (λ value. view value ≡ member_at at (row_view row.now)) }
     ensures which { RefusedMemoryOnly result }
 {

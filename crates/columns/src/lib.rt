@@ -8,5 +8,5 @@ mod cutting;
 mod wanted;
 
 pub use at_places::columns_at;
-pub use cutting::cut_row;
+pub use cutting::{cut_row, value_at};
 pub use wanted::{has_column, has_columns, wanted_places, wanted_schema};

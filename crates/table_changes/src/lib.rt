@@ -1,10 +1,10 @@
 //! Changes of a table that are one call: appends, imports, removals, new columns.
 #![tactic(auto)]
 
+mod adding_column;
 mod appending;
 mod appending_gathered;
 mod bringing;
-mod columns;
 mod comparing;
 mod dropping;
 mod gathered_rows;
@@ -14,9 +14,9 @@ mod removing;
 mod root_limit;
 mod widening;
 
+pub use adding_column::add_column;
 pub use appending::append;
 pub use appending_gathered::append_gathered;
-pub use columns::add_column;
 pub use dropping::remove_groups;
 pub use gathered_rows::gather_file;
 pub use importing::import;

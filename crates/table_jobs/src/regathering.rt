@@ -17,6 +17,7 @@ ghost use Rattle.table_commits.specs.Gathering.{KeepsTable};
 ghost use Rattle.table_jobs.specs.Regathering.{AreWhole, whole_value};
 
 use bits::{R, Refusal};
+use columns::value_at;
 use filter::key_at;
 use footer::WriteOptions;
 use gather::{Gathered, KeyBuffer};
@@ -138,16 +139,4 @@ fn whole_value(
         Some(value) => value.copied(alloc),
         None => value_at(alloc, stored, next),
     }
-}
-
-/// A copy of the value at a place; Null where there is none.
-fn value_at(alloc: Global, row: &Row, at: usize) -> R<Value>
-    ensures is { IfOk result (λ value. view value ≡ member_at at (row_view row.now)) }
-    ensures which { RefusedMemoryOnly result }
-{
-    if at >= row.values.len() {
-        return Ok(Value::Null);
-    }
-    let value = row.values[at].copied(alloc)?;
-    Ok(value)
 }

@@ -11,8 +11,9 @@ ghost use Rattle.table_reads.specs.Shown.{IsShownAs};
 ghost use Rattle.table_state.specs.Promises.{Acts, HasCause, StaysClosed, TouchesCursors};
 
 use crate::passing::{FetchedRows, fetched_of, move_cursor, next_rows, shown_of};
-use crate::wanted::{has_columns, places_of};
+use crate::wanted::has_wanted;
 use bits::{R, Refusal};
+use columns::wanted_places;
 use disk::Disk;
 use filter::{Filter, Term};
 use snapshots::Event;
@@ -48,10 +49,10 @@ pub fn query<D: Disk>(
         return Err(Refusal::Full);
     }
     let filter = Filter::new(alloc, store.manifest.schema(), terms)?;
-    if !has_columns(store.manifest.schema().fields(), columns) {
+    if !has_wanted(store.manifest.schema(), columns) {
         return Err(Refusal::NoColumn);
     }
-    let places = places_of(alloc, store.manifest.schema().fields(), columns)?;
+    let places = wanted_places(alloc, store.manifest.schema(), columns)?;
     let table = store.description()?;
     let number = store.next_cursor;
     let cursor = OpenCursor {

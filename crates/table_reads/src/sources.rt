@@ -17,8 +17,8 @@ ghost use Rattle.table_reads.specs.Stepping.{source_in, next_at, next_in};
 ghost use Rattle.table_state.specs.Lookups.{job_at};
 
 use crate::showing::stored_places;
-use crate::wanted::places_of;
 use bits::R;
+use columns::wanted_places;
 use disk::Disk;
 use filter::Filter;
 use manifest::{Group, Manifest};
@@ -53,7 +53,7 @@ pub fn whole_rows<D: Disk>(
     // For the proof: the rows of a part file fit the table.
     manifest::rows_of_parts_fit();
     let filter = Filter::new(alloc, table.schema(), &[])?;
-    let places = places_of(alloc, table.schema().fields(), None)?;
+    let places = wanted_places(alloc, table.schema(), None)?;
     let rows = scan::rows_of(
         alloc,
         vault,

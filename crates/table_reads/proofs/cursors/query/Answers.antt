@@ -51,17 +51,17 @@ returns-in_err-filter-clause-cause g c honest s stands =
     refused (λ r. is_failure (answered {T = ℕ} (λ n. cursor n) r) ≡ true → HasFailed (g.D.Disk.state old.vault.disk) (g.D.Disk.state old.vault.disk)) c.from_residual.result _ c.from_residual.ensures.1
     (λ h. absurd (no_failure (leaves_of c.schema.result.now) (terms_view c.args.terms.now) c.in_err-filter.field-0.0 c.in_err-filter.ensures.which h))
 
-pub returns-then-not-has_columns-clause-acts : goal.returns-then-not-has_columns-clause-acts
-returns-then-not-has_columns-clause-acts g c honest s stands =
+pub returns-then-not-has_wanted-clause-acts : goal.returns-then-not-has_wanted-clause-acts
+returns-then-not-has_wanted-clause-acts g c honest s stands =
     let old = c.args.store.now in
     let is_open = sym stands.shows.closed ∙ c.if-store.false in
     let terms = terms_view c.args.terms.now in
     let columns = names_view c.args.columns in
     let room = asked 64 old.next_cursor c.as_slice.result.now old.cursors.items c.can_open.result true c.as_slice.ensures.value c.can_open.ensures c.if-not-can_open.false in
     let made = subst (λ (fs : Fields). tests_of (leaves_of fs) terms ≡ Ok (tests_in c.in_ok-filter.filter)) (c.schema.ensures ∙ stands.shows.schema) c.in_ok-filter.ensures.made in
-    let fields = c.fields.ensures ∙ c.schema-2.ensures ∙ stands.shows.schema in
+    let fields = c.schema-2.ensures ∙ stands.shows.schema in
     no_column g.D.Disk.state old s stands is_open terms columns room c.in_ok-filter.filter made
-    (ap (λ (fs : Fields). columns_fault fs columns) (sym fields) ∙ c.has_columns.ensures ∙ ap (λ b. unless b NoColumn) c.if-not-has_columns.true)
+    (ap (λ (fs : Fields). columns_fault fs columns) (sym fields) ∙ c.has_wanted.ensures ∙ ap (λ b. unless b NoColumn) c.if-not-has_wanted.true)
 
 pub returns-in_err-places-clause-acts : goal.returns-in_err-places-clause-acts
 returns-in_err-places-clause-acts g c honest s stands =
@@ -108,11 +108,11 @@ returns-clause-acts g c honest s stands =
     let room = asked 64 old.next_cursor c.as_slice.result.now old.cursors.items c.can_open.result true c.as_slice.ensures.value c.can_open.ensures c.if-not-can_open.false in
     let filter = c.in_ok-filter.filter in
     let made = subst (λ (fs : Fields). tests_of (leaves_of fs) terms ≡ Ok (tests_in filter)) (c.schema.ensures ∙ stands.shows.schema) c.in_ok-filter.ensures.made in
-    let tested = c.fields.ensures ∙ c.schema-2.ensures ∙ stands.shows.schema in
-    let cut = c.fields-2.ensures ∙ c.schema-3.ensures ∙ stands.shows.schema in
+    let tested = c.schema-2.ensures ∙ stands.shows.schema in
+    let cut = c.schema-3.ensures ∙ stands.shows.schema in
     let x : OpenCursor = record { number = old.next_cursor; table = c.in_ok-table.table; filter = filter; places = c.in_ok-places.places; passed = 0; ended = false } in
     query_opened g.D.Disk.state old s stands is_open terms columns room filter made x refl c.in_ok-table.ensures.same refl (c.in_ok-places.ensures.made ∙ ap (λ (fs : Fields). wanted_places columns 0 fs) cut) refl refl
-    (ap (λ (fs : Fields). columns_fault fs columns) (sym tested) ∙ c.has_columns.ensures ∙ ap (λ b. unless b NoColumn) c.if-not-has_columns.false)
+    (ap (λ (fs : Fields). columns_fault fs columns) (sym tested) ∙ c.has_wanted.ensures ∙ ap (λ b. unless b NoColumn) c.if-not-has_wanted.false)
     c.begin_cursor.new.self c.in_ok-begin_cursor.ensures.steps c.in_ok-begin_cursor.ensures.pushed c.in_ok-begin_cursor.ensures.same
 
 pub returns-then-store-clause-leaves : goal.returns-then-store-clause-leaves
@@ -124,8 +124,8 @@ returns-then-not-can_open-clause-leaves g c = same g.D.Disk.state c.args.store.n
 pub returns-in_err-filter-clause-leaves : goal.returns-in_err-filter-clause-leaves
 returns-in_err-filter-clause-leaves g c = same g.D.Disk.state c.args.store.now
 
-pub returns-then-not-has_columns-clause-leaves : goal.returns-then-not-has_columns-clause-leaves
-returns-then-not-has_columns-clause-leaves g c = same g.D.Disk.state c.args.store.now
+pub returns-then-not-has_wanted-clause-leaves : goal.returns-then-not-has_wanted-clause-leaves
+returns-then-not-has_wanted-clause-leaves g c = same g.D.Disk.state c.args.store.now
 
 pub returns-in_err-places-clause-leaves : goal.returns-in_err-places-clause-leaves
 returns-in_err-places-clause-leaves g c = same g.D.Disk.state c.args.store.now

@@ -65,7 +65,7 @@ returns-clause-stands g c honest held h =
     let over = subst (λ ts. IsOver ts c.schema-3.result.now) (sym none) ([], refl) in
     let keyed = subst (λ (ks : List KeyColumn). AreKeys ks c.schema-3.result.now) (sym c.keys.ensures.are) (subst (λ (fs : Fields). AreKeys root.keys fs) (sym c.schema-3.ensures) h.keyed) in
     let holds = subst (λ (ks : List KeyColumn). Holds disk ks c.schema-3.result.now f held.rows) (sym c.keys.ensures.are) (subst (λ (fs : Fields). Holds disk root.keys fs f held.rows) (sym c.schema-3.ensures) (held_there disk [] root f held h)) in
-    let all = c.as_slice.ensures.value ∙ c.in_ok-places.ensures.made ∙ ap (λ (fs : Fields). wanted_places None 0 fs) (c.fields.ensures ∙ c.schema-2.ensures) in
+    let all = c.as_slice.ensures.value ∙ c.in_ok-places.ensures.made ∙ ap (λ (fs : Fields). wanted_places None 0 fs) c.schema-2.ensures in
     whole_so disk root f held tests c.as_slice.result.now (rows_view c.in_ok-rows.rows.items) none all h (c.in_ok-rows.ensures.stands honest over keyed held.rows holds)
 
 pub returns-clause-absent : goal.returns-clause-absent
@@ -75,7 +75,7 @@ returns-clause-absent g c honest keyed lacks =
     let f = group_view c.args.group.now in
     let tests = tests_in c.in_ok-filter.filter in
     let none : tests ≡ [] = no_tests (leaves_of c.schema.result.now) [] tests refl c.in_ok-filter.ensures.made in
-    let all = c.as_slice.ensures.value ∙ c.in_ok-places.ensures.made ∙ ap (λ (fs : Fields). wanted_places None 0 fs) (c.fields.ensures ∙ c.schema-2.ensures) in
+    let all = c.as_slice.ensures.value ∙ c.in_ok-places.ensures.made ∙ ap (λ (fs : Fields). wanted_places None 0 fs) c.schema-2.ensures in
     let schema = subst IsSchema c.schema-4.ensures c.leaves.ensures.valid in
     let may = all_same (λ ks fs x ps. AreKeys ks fs → Lacks disk ks fs x → MayLackRows tests ks fs x ps (rows_view c.in_ok-rows.rows.items))
     (key_columns_view c.keys.result.now) root.keys c.schema-3.result.now root.schema f f c.as_slice.result.now (wanted_places None 0 root.schema) c.keys.ensures.are c.schema-3.ensures refl all

@@ -12,7 +12,7 @@ use Rattle.table_state.specs.Promises.{ActsFrom}
 use Rattle.table_commits.proofs.GroupRemovals.{failure_of}
 use Rattle.table_commits.proofs.UnchangedRefusals.{acts_shut}
 use Rattle.table_changes.proofs.ColumnsAdded.{no_failure, refused_elements, planned, grown, too_much, done_so, refused_so}
-use Rattle.table_changes.proofs.columns.add_column.Goals as goal
+use Rattle.table_changes.proofs.adding_column.add_column.Goals as goal
 
 pub returns-then-store-clause-acts : goal.returns-then-store-clause-acts
 returns-then-store-clause-acts g c = acts_shut g.D.Disk.state c.args.store.now (add_column (elements_view c.args.elements.now)) refl c.if-store.true
