@@ -1,6 +1,9 @@
 -- Rows that are read back from the columns of a buffer.
-use Rattle.std.proofs.Common.{◌≡◌, ◌≤◌, ℕ, zero, suc, List, [], ◌∷◌, ◌++◌, map, length, take, get_or, refl, sym, ◌∙◌, ap, arith}
+use Rattle.std.proofs.Common.{◌≡◌, ◌≤◌, ℕ, zero, suc, List, [], ◌∷◌, ◌++◌, map, length, take, get_or, Option, inl, inr, refl, sym, ◌∙◌, ap, subst, arith}
 use Rattle.std.proofs.lemmas.List.{length-map}
+use Rattle.bits.specs.declared.refusal.Refusal.{Refusal}
+use Rattle.bits.specs.declared.refusal.Refusal.TheVariants.{Limit, Memory}
+use Rattle.bits.specs.Refusals.{IsFault, HasCause}
 use Rattle.schema.specs.Law.{IsSchema, ColumnsDetermineRows}
 use Rattle.schema.specs.Shape.{Fields}
 use Rattle.schema.specs.Stripe.{Entry, Leaf, leaves_of, column, columns}
@@ -11,8 +14,9 @@ use Rattle.shred.specs.declared.row_buffer.RowBuffer.{RowBuffer}
 use Rattle.shred.specs.Buffer.{schema_of, holds}
 use Rattle.assemble.specs.declared.cursor.Cursor.{Cursor}
 use Rattle.assemble.specs.Cursors.{entries_left, cursor_stands}
-use Rattle.assemble.specs.RowsOf.{StandForRows}
-use Rattle.assemble.proofs.WholeColumns.{cursors_only}
+use Rattle.assemble.specs.RowsOf.{StandForRows, HasFault}
+use Rattle.assemble.specs.Standing.{AllStand, IsRefusedFor}
+use Rattle.assemble.proofs.WholeColumns.{cursors_only, cursors_stand}
 
 -- there is a column for each leaf
 pub as_many_columns : (fs : Fields) (rows : List ValueTrees) (leaves : List CodeLeaf) → map leaf_view leaves ≡ leaves_of fs → length (columns fs rows) ≡ length leaves
@@ -33,3 +37,21 @@ pub rows_back : (buffer : RowBuffer) (held rows : List ValueTrees) (cursors : Li
     → StandForRows cursor_stands cursors (schema_of buffer) rows → rows ≡ held
 rows_back buffer held rows cursors law valid holds_held are stand =
     law (schema_of buffer) rows held valid stand.fit holds_held.fit (cursors_only cursors (columns (schema_of buffer) rows) stand.stand ∙ are)
+
+-- columns of rows in memory are refused for memory alone
+pub only_poor : (R : Cursor → Option Refusal) (C : Cursor → Refusal → Type 0) (buffer : RowBuffer) (held : List ValueTrees) (cursors old new : List Cursor) (fs : Fields) (e : Refusal)
+    → holds buffer held → map entries_left cursors ≡ columns (schema_of buffer) held → old ≡ cursors → fs ≡ schema_of buffer
+    → (IsFault e → (rows : List ValueTrees) → StandForRows cursor_stands old fs rows → ⊥) → IsRefusedFor cursor_stands R C old new (HasFault fs) e → HasCause (λ _. ⊥) e
+only_poor R C buffer held cursors old new fs e known are same own only which = by e only which
+  where
+    here : StandForRows cursor_stands cursors (schema_of buffer) held
+    here = record { fit = known.fit; stand = subst (AllStand cursor_stands cursors) are (cursors_stand cursors) }
+
+    stand : StandForRows cursor_stands old fs held
+    stand = subst (λ (gs : Fields). StandForRows cursor_stands old gs held) (sym own) (subst (λ (cs : List Cursor). StandForRows cursor_stands cs (schema_of buffer) held) (sym same) here)
+
+    by : (f : Refusal) → (IsFault f → (rows : List ValueTrees) → StandForRows cursor_stands old fs rows → ⊥) → IsRefusedFor cursor_stands R C old new (HasFault fs) f → HasCause (λ _. ⊥) f
+    by Memory o w = tt
+    by Limit o (inl h) = h.1 (columns fs held) stand.stand
+    by Limit o (inr h) = h.1.0
+    by f o w = o tt held stand

@@ -49,6 +49,10 @@ keys_rows : (s : State) (rows : List Row) → AreFine s rows → HaveKeys s.tabl
 keys_rows s [] fine = tt
 keys_rows s (row ∷ rows) fine = (fine.0.1, keys_rows s rows fine.1)
 
+fit_rows : (s : State) (rows : List Row) → AreFine s rows → RowsFit s.table.schema rows
+fit_rows s [] fine = tt
+fit_rows s (row ∷ rows) fine = (fine.0.0, fit_rows s rows fine.1)
+
 module _ {D : Type 0} (state : D → DiskState) (old : Core D) (s : State) (stands : Stands state old s) (is_open : s.closed ≡ false) (n : ℕ) where
   -- the description's stored fields are the table's
   own_so : stored_of (root_of old.manifest) ≡ without_keys s.table.keys s.table.schema
@@ -72,6 +76,13 @@ module _ {D : Type 0} (state : D → DiskState) (old : Core D) (s : State) (stan
         subst (λ (gs : Fields). AreBuffers gs root.keys ws whole_at) (sym (ap (λ (r : Root). r.schema) same ∙ stands.shows.schema))
         (subst (λ (ks : List KeyColumn). AreBuffers s.table.schema ks ws whole_at) (sym (ap (λ (r : Root). r.keys) same ∙ stands.shows.keys))
         (subst (λ (us : List KeyRows). AreBuffers s.table.schema s.table.keys us whole_at) (sym are) here))
+
+    -- rows that passed the checks fit the description, and their keys can partition in it
+    pub fit_here : (given : List Row) → AreFine s given → RowsFit root.schema given
+    fit_here given fine = subst (λ (fs : Fields). RowsFit fs given) (sym (ap (λ (r : Root). r.schema) same ∙ stands.shows.schema)) (fit_rows s given fine)
+
+    pub keyed_here : (given : List Row) → AreFine s given → HaveKeys root.keys given
+    keyed_here given fine = subst (λ (ks : List KeyColumn). HaveKeys ks given) (sym (ap (λ (r : Root). r.keys) same ∙ stands.shows.keys)) (keys_rows s given fine)
 
     -- the groups of what waits and of what is given
     groups_in : (size : ℕ) (given : List Row) (bs : List KeyBuffer) → HoldGroups root.keys size (stored_of root) (rows_waiting whole_at ++ given) bs

@@ -1,6 +1,6 @@
 //! The rows of an append that wait, gathered again, and then those that come.
 
-ghost use Rattle.std.specs.Prelude.{◌≡◌, ◌++◌, List, map, length, IfOk, OnOk};
+ghost use Rattle.std.specs.Prelude.{◌≡◌, ◌++◌, ◌⊎◌, List, map, length, IfOk, OnOk};
 ghost use Rattle.bits.specs.Refusals.{RefusedOnly, RefusedMemoryOnly};
 ghost use Rattle.schema.specs.Fits.{RowsFit};
 ghost use Rattle.schema.specs.Keys.{IsRowOf, AreRowsOf, key_columns_view, places_of};
@@ -27,30 +27,10 @@ use schema::{Key, KeyColumn, Row, Value, has_place};
 use std::alloc::Global;
 use table_commits::{begin_gathering, push_rows};
 
-/// The groups of rows that wait under their keys, as the files of a table have them, and then of rows that come. They fit the table,
-/// and their keys can partition; else it is refused Memory.
+/// The groups of rows that wait under their keys, as the files of a table have them, and then of rows that come.
+///
+/// Refused RowShape for a row that does not fit the table, and Key for one whose key can name no folder.
 pub(crate) fn groups_with<'a>(
-    alloc: Global,
-    table: &'a Manifest,
-    options: &WriteOptions,
-    waiting: &[KeyRows],
-    rows: &[Row],
-) -> R<Vec<KeyBuffer<'a>>>
-    ensures groups { IfOk result (λ groups. (whole : List KeyTrees)
-        → AreBuffers (root_of table.now).schema (root_of table.now).keys (map key_rows_view waiting.now) whole
-        → HoldGroups (root_of table.now).keys options.now.group_rows (stored_of (root_of table.now))
-        (rows_waiting whole ++ rows_view rows.now) groups.items) }
-    ensures which { RefusedMemoryOnly result }
-{
-    match regathered(alloc, table, options, waiting, rows) {
-        Ok(groups) => Ok(groups),
-        // Memory: the rows fit the table, and their keys can partition.
-        Err(_) => Err(Refusal::Memory),
-    }
-}
-
-/// The groups of these rows. Refused RowShape and Key for a row.
-fn regathered<'a>(
     alloc: Global,
     table: &'a Manifest,
     options: &WriteOptions,
@@ -64,6 +44,7 @@ fn regathered<'a>(
     ensures only { (whole : List KeyTrees) → AreBuffers (root_of table.now).schema (root_of table.now).keys (map key_rows_view waiting.now) whole
         → RowsFit (root_of table.now).schema (rows_view rows.now)
         → HaveKeys (root_of table.now).keys (rows_view rows.now) → RefusedMemoryOnly result }
+    ensures which { RefusedOnly (λ e. (e ≡ Refusal.RowShape) ⊎ (e ≡ Refusal.Key)) result }
 {
     let mut gathered = begin_gathering(alloc, table, options)?;
     gather_waiting(alloc, &mut gathered, waiting)?;
@@ -80,6 +61,7 @@ fn gather_waiting(alloc: Global, gathered: &mut Gathered<'_>, waiting: &[KeyRows
     ensures table { KeepsTable gathered.old gathered.new }
     ensures only { (whole : List KeyTrees) → AreWhole (columns_of gathered.old) (map key_rows_view waiting.now) whole
         → RowsFit (schema_of gathered.old) (rows_waiting whole) → RefusedMemoryOnly result }
+    ensures which { RefusedOnly (λ e. e ≡ Refusal.RowShape) result }
 {
     for rows in waiting {
         gather_key(alloc, gathered, rows)?;
@@ -95,6 +77,7 @@ fn gather_key(alloc: Global, gathered: &mut Gathered<'_>, waiting: &KeyRows) -> 
     ensures table { KeepsTable gathered.old gathered.new }
     ensures only { (whole : List ValueTrees) → AreRowsOf (columns_of gathered.old) (key_view waiting.now.key) (rows_view waiting.now.rows.items) whole
         → RowsFit (schema_of gathered.old) whole → RefusedMemoryOnly result }
+    ensures which { RefusedOnly (λ e. e ≡ Refusal.RowShape) result }
 {
     for stored in &waiting.rows {
         let row = whole_row(alloc, gathered.columns(), &waiting.key, stored)?;

@@ -14,7 +14,7 @@ ghost use Rattle.partition.specs.Splitting.{KeyRows as KeyTrees, key_rows_view};
 ghost use Rattle.table_jobs.specs.Rests.{IsAsLong, IsShorter, HoldParts};
 
 use assemble::{Cursor, assemble_from};
-use bits::{R, Refusal};
+use bits::R;
 use gather::KeyBuffer;
 use partition::KeyRows;
 use schema::{Column, Row, columns_determine_rows};
@@ -47,10 +47,10 @@ fn first_rest(groups: &[KeyBuffer<'_>], size: usize) -> usize
     groups.len()
 }
 
-/// Rows that wait as columns, each key's as rows.
+/// Rows that wait as columns, each key's as rows. Time and room are linear in what the rows hold.
 pub(crate) fn rests_as_rows(alloc: Global, rests: Vec<KeyBuffer<'_>>) -> R<Vec<KeyRows>>
     ensures are { IfOk result (λ waiting. (fs : Fields) (left : List KeyTrees) → Hold fs rests.entry.items left → map key_rows_view waiting.items ≡ left) }
-    ensures which { RefusedMemoryOnly result }
+    ensures only { (fs : Fields) (left : List KeyTrees) → Hold fs rests.entry.items left → RefusedMemoryOnly result }
 {
     let mut waiting = Vec::with_capacity(alloc, rests.len())?;
     for rest in rests {
@@ -61,10 +61,10 @@ pub(crate) fn rests_as_rows(alloc: Global, rests: Vec<KeyBuffer<'_>>) -> R<Vec<K
     Ok(waiting)
 }
 
-/// The rows of a buffer. It fails only when out of memory.
+/// The rows of a buffer.
 fn rows_of(alloc: Global, buffer: &RowBuffer<'_>) -> R<Vec<Row>>
     ensures are { IfOk result (λ rows. (held : List ValueTrees) → holds buffer.now held → rows_view rows.items ≡ held) }
-    ensures which { RefusedMemoryOnly result }
+    ensures only { (held : List ValueTrees) → holds buffer.now held → RefusedMemoryOnly result }
 {
     // For the proof: what is known of the schema, and that no other rows have these columns.
     let _ = buffer.schema().leaves();
@@ -74,11 +74,8 @@ fn rows_of(alloc: Global, buffer: &RowBuffer<'_>) -> R<Vec<Row>>
     for column in &columns {
         cursors.push(Cursor::new(column.entries.as_slice()))?;
     }
-    match assemble_from(alloc, buffer.schema(), cursors.as_mut_slice()) {
-        Ok(rows) => Ok(rows),
-        // Memory: the columns are those of rows.
-        Err(_) => Err(Refusal::Memory),
-    }
+    let rows = assemble_from(alloc, buffer.schema(), cursors.as_mut_slice())?;
+    Ok(rows)
 }
 
 /// The columns of the rows of a buffer, one for each leaf.

@@ -72,16 +72,30 @@ pub returns-in_err-gathered-clause-acts : goal.returns-in_err-gathered-clause-ac
 returns-in_err-gathered-clause-acts g c honest s stands is_open fine is_append something =
     let old = c.args.store.now in
     let n = c.args.job in
+    let t = found_there g.D.Disk.state s n old is_append in
+    let same_root = c.in_ok-table.ensures.same in
+    let root = root_of c.in_ok-table.table in
+    let told = c.in_ok-waiting.ensures.told ∙ ap (λ js. completed_buffers c.stored.result.now (waiting_at (job_at n js))) c.as_slice.ensures.value in
+    let here = buffers_at g.D.Disk.state old s stands is_open n t root same_root c.stored.result.now (map key_rows_view c.in_ok-waiting.waiting.items) c.stored.ensures told in
+    let seen = subst (λ (xs : List CodeKeyRows). AreBuffers root.schema root.keys (map key_rows_view xs) (whole_at g.D.Disk.state old s stands is_open n t root same_root)) (sym c.as_slice-2.ensures.value) here in
+    let only = c.in_err-gathered.ensures.only (whole_at g.D.Disk.state old s stands is_open n t root same_root) seen tt tt in
     refused (λ r. ActsFrom g.D.Disk.state old old (commit n) (answered {T = ℕ} (λ x. done x) r) s) c.from_residual-in_err-gathered.result _ c.from_residual-in_err-gathered.ensures.1
-    (subst (λ (e : Refusal). ActsFrom g.D.Disk.state old old (commit n) (answered {T = ℕ} (λ x. done x) (Err e)) s) (sym (memory_only c.in_err-gathered.field-0.0 c.in_err-gathered.ensures.which))
+    (subst (λ (e : Refusal). ActsFrom g.D.Disk.state old old (commit n) (answered {T = ℕ} (λ x. done x) (Err e)) s) (sym (memory_only c.in_err-gathered.field-0.0 only))
     (poor_before g.D.Disk.state old s stands is_open n fine))
 
 pub returns-in_err-gathered-clause-cause : goal.returns-in_err-gathered-clause-cause
 returns-in_err-gathered-clause-cause g c honest s stands is_open fine is_append something =
     let old = c.args.store.now in
     let n = c.args.job in
+    let t = found_there g.D.Disk.state s n old is_append in
+    let same_root = c.in_ok-table.ensures.same in
+    let root = root_of c.in_ok-table.table in
+    let told = c.in_ok-waiting.ensures.told ∙ ap (λ js. completed_buffers c.stored.result.now (waiting_at (job_at n js))) c.as_slice.ensures.value in
+    let here = buffers_at g.D.Disk.state old s stands is_open n t root same_root c.stored.result.now (map key_rows_view c.in_ok-waiting.waiting.items) c.stored.ensures told in
+    let seen = subst (λ (xs : List CodeKeyRows). AreBuffers root.schema root.keys (map key_rows_view xs) (whole_at g.D.Disk.state old s stands is_open n t root same_root)) (sym c.as_slice-2.ensures.value) here in
+    let only = c.in_err-gathered.ensures.only (whole_at g.D.Disk.state old s stands is_open n t root same_root) seen tt tt in
     refused (λ r. is_failure (answered {T = ℕ} (λ x. done x) r) ≡ true → HasFailed (g.D.Disk.state old.vault.disk) (g.D.Disk.state old.vault.disk)) c.from_residual-in_err-gathered.result _ c.from_residual-in_err-gathered.ensures.1
-    (subst (λ (e : Refusal). is_failure (answered {T = ℕ} (λ x. done x) (Err e)) ≡ true → HasFailed (g.D.Disk.state old.vault.disk) (g.D.Disk.state old.vault.disk)) (sym (memory_only c.in_err-gathered.field-0.0 c.in_err-gathered.ensures.which))
+    (subst (λ (e : Refusal). is_failure (answered {T = ℕ} (λ x. done x) (Err e)) ≡ true → HasFailed (g.D.Disk.state old.vault.disk) (g.D.Disk.state old.vault.disk)) (sym (memory_only c.in_err-gathered.field-0.0 only))
     (λ h. absurd (cc)))
 
 pub returns-in_err-rests-clause-acts : goal.returns-in_err-rests-clause-acts

@@ -1,6 +1,8 @@
 use Rattle.std.proofs.Common.{◌≡◌, ◌++◌, ◌∷◌, [], List, map, length, ap, sym, ◌∙◌, subst, arith, append_assoc}
 use Rattle.std.proofs.lemmas.List.{nil_from_length, append-nil, map_push}
 use Rattle.std.specs.Vec.Iter.{into_iter_items}
+use Rattle.bits.specs.Refusals.{HasCause}
+use Rattle.bits.proofs.Passing.{passes}
 use Rattle.schema.specs.Views.{key_view, rows_view}
 use Rattle.partition.specs.Splitting.{KeyRows, key_rows_view}
 use Rattle.gather.specs.declared.key_buffer.KeyBuffer.{KeyBuffer}
@@ -49,3 +51,11 @@ returns-clause-are c = λ fs left held.
     let empty : into_iter_items c.loop-rest.rest-iterator ≡ [] = nil_from_length (into_iter_items c.loop-rest.rest-iterator) (sym so_far.many ∙ c.in-None.ensures.steps.0) in
     let none = none_held fs now.0 (subst (λ (bs : List KeyBuffer). Hold fs bs now.0) empty now.2) in
     sym (now.1 ∙ ap (λ (gs : List KeyRows). map key_rows_view c.loop-rest.waiting.items ++ gs) none ∙ append-nil (map key_rows_view c.loop-rest.waiting.items))
+
+pub returns-in_err-rows-clause-only : goal.returns-in_err-rows-clause-only
+returns-in_err-rows-clause-only c = λ fs left held.
+    let x = c.in-Some.rest in
+    let now = c.loop-rest.invariant.made fs left held in
+    let next = held_next fs x (into_iter_items c.next.new.self) now.0 (subst (λ (bs : List KeyBuffer). Hold fs bs now.0) c.in-Some.ensures.steps.0 now.2) in
+    passes (HasCause (λ _. ⊥)) c.from_residual-in_err-rows.result c.in_err-rows.field-0.0 c.from_residual-in_err-rows.ensures.1
+    (c.in_err-rows.ensures.only next.group.rows next.here.rows.held)

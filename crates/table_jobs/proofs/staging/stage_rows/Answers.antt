@@ -22,7 +22,7 @@ use Rattle.table_commits.proofs.GroupRemovals.{memory_only}
 use Rattle.table_jobs.proofs.WorkReplaced.{put_back}
 use Rattle.table_jobs.proofs.StageGoesOn.{append_in}
 use Rattle.table_jobs.proofs.StageEnds.{starts, stopped, stopped_cause, poor_after, done_so}
-use Rattle.table_jobs.proofs.StagePasses.{there_so, fine_so, whole_at, wait_at, buffers_at, parts_here, fine_at, high_at}
+use Rattle.table_jobs.proofs.StagePasses.{there_so, fine_so, whole_at, wait_at, buffers_at, fit_here, keyed_here, parts_here, fine_at, high_at}
 use Rattle.table_jobs.proofs.staging.stage_rows.Goals as goal
 
 pub returns-in_err-table-clause-acts : goal.returns-in_err-table-clause-acts
@@ -59,15 +59,36 @@ pub returns-in_err-groups-clause-acts : goal.returns-in_err-groups-clause-acts
 returns-in_err-groups-clause-acts g c honest s stands is_open fine =
     let old = c.args.store.now in
     let given = rows_view c.args.rows.now in
+    let n = c.args.job in
+    let t = there_so g.D.Disk.state old s stands is_open n given fine in
+    let same = c.in_ok-table.ensures.same in
+    let root = root_of c.in_ok-table.table in
+    let told = c.in_ok-waiting.ensures.told ∙ ap (λ js. completed_buffers c.stored.result.now (waiting_at (job_at n js))) c.as_slice.ensures.value in
+    let here = buffers_at g.D.Disk.state old s stands is_open n t root same c.stored.result.now (map key_rows_view c.in_ok-waiting.waiting.items) c.stored.ensures told in
+    let seen = subst (λ (xs : List CodeKeyRows). AreBuffers root.schema root.keys (map key_rows_view xs) (whole_at g.D.Disk.state old s stands is_open n t root same)) (sym c.as_slice-2.ensures.value) here in
+    let rows = fine_so g.D.Disk.state old s stands is_open n given fine in
+    let only = c.in_err-groups.ensures.only (whole_at g.D.Disk.state old s stands is_open n t root same) seen
+    (fit_here g.D.Disk.state old s stands is_open n t root same given rows) (keyed_here g.D.Disk.state old s stands is_open n t root same given rows) in
     refused (λ r. ActsFrom g.D.Disk.state old old (stage c.args.job given) (answered {T = Unit {0}} (λ x. accepted) r) s) c.from_residual-in_err-groups.result _ c.from_residual-in_err-groups.ensures.1
-    (subst (λ (e : Refusal). ActsFrom g.D.Disk.state old old (stage c.args.job given) (answered {T = Unit {0}} (λ x. accepted) (Err e)) s) (sym (memory_only c.in_err-groups.field-0.0 c.in_err-groups.ensures.which))
+    (subst (λ (e : Refusal). ActsFrom g.D.Disk.state old old (stage c.args.job given) (answered {T = Unit {0}} (λ x. accepted) (Err e)) s) (sym (memory_only c.in_err-groups.field-0.0 only))
     (stage_poor g.D.Disk.state old s stands is_open c.args.job given))
 
 pub returns-in_err-groups-clause-cause : goal.returns-in_err-groups-clause-cause
 returns-in_err-groups-clause-cause g c honest s stands is_open fine =
     let old = c.args.store.now in
+    let given = rows_view c.args.rows.now in
+    let n = c.args.job in
+    let t = there_so g.D.Disk.state old s stands is_open n given fine in
+    let same = c.in_ok-table.ensures.same in
+    let root = root_of c.in_ok-table.table in
+    let told = c.in_ok-waiting.ensures.told ∙ ap (λ js. completed_buffers c.stored.result.now (waiting_at (job_at n js))) c.as_slice.ensures.value in
+    let here = buffers_at g.D.Disk.state old s stands is_open n t root same c.stored.result.now (map key_rows_view c.in_ok-waiting.waiting.items) c.stored.ensures told in
+    let seen = subst (λ (xs : List CodeKeyRows). AreBuffers root.schema root.keys (map key_rows_view xs) (whole_at g.D.Disk.state old s stands is_open n t root same)) (sym c.as_slice-2.ensures.value) here in
+    let rows = fine_so g.D.Disk.state old s stands is_open n given fine in
+    let only = c.in_err-groups.ensures.only (whole_at g.D.Disk.state old s stands is_open n t root same) seen
+    (fit_here g.D.Disk.state old s stands is_open n t root same given rows) (keyed_here g.D.Disk.state old s stands is_open n t root same given rows) in
     refused (λ r. is_failure (answered {T = Unit {0}} (λ x. accepted) r) ≡ true → HasFailed (g.D.Disk.state old.vault.disk) (g.D.Disk.state old.vault.disk)) c.from_residual-in_err-groups.result _ c.from_residual-in_err-groups.ensures.1
-    (subst (λ (e : Refusal). is_failure (answered {T = Unit {0}} (λ x. accepted) (Err e)) ≡ true → HasFailed (g.D.Disk.state old.vault.disk) (g.D.Disk.state old.vault.disk)) (sym (memory_only c.in_err-groups.field-0.0 c.in_err-groups.ensures.which))
+    (subst (λ (e : Refusal). is_failure (answered {T = Unit {0}} (λ x. accepted) (Err e)) ≡ true → HasFailed (g.D.Disk.state old.vault.disk) (g.D.Disk.state old.vault.disk)) (sym (memory_only c.in_err-groups.field-0.0 only))
     (λ h. absurd (cc)))
 
 pub returns-in_err-rests-clause-acts : goal.returns-in_err-rests-clause-acts
@@ -178,15 +199,25 @@ returns-in_err-left-clause-acts g c honest s stands is_open fine =
     let high = high_at g.D.Disk.state old s stands is_open n t root same given (stored_of (root_of old.manifest)) c.take_rests.new.groups.items mid.next_group parts.full_held c.in_ok-full.ensures.rises in
     let kept = ap (λ (x : Core g.row.D.Denot). x.jobs) c.in_ok-full.ensures.same in
     refused (λ r. ActsFrom g.D.Disk.state old mid (stage n given) (answered {T = Unit {0}} (λ x. accepted) r) s) c.from_residual-in_err-left.result _ c.from_residual-in_err-left.ensures.1
-    (subst (λ (e : Refusal). ActsFrom g.D.Disk.state old mid (stage n given) (answered {T = Unit {0}} (λ x. accepted) (Err e)) s) (sym (memory_only c.in_err-left.field-0.0 c.in_err-left.ensures.which))
+    (subst (λ (e : Refusal). ActsFrom g.D.Disk.state old mid (stage n given) (answered {T = Unit {0}} (λ x. accepted) (Err e)) s) (sym (memory_only c.in_err-left.field-0.0 (c.in_err-left.ensures.only (stored_of (root_of old.manifest)) parts.rests parts.rests_held)))
     (poor_after g.D.Disk.state old s stands is_open n t.x t.a t.there t.is given fine mid (handles_view c.in_ok-full.full.items) parts.rests (took parts.rests parts.are) high kept))
 
 pub returns-in_err-left-clause-cause : goal.returns-in_err-left-clause-cause
 returns-in_err-left-clause-cause g c honest s stands is_open fine =
     let old = c.args.store.now in
+    let n = c.args.job in
+    let given = rows_view c.args.rows.now in
+    let t = there_so g.D.Disk.state old s stands is_open n given fine in
+    let same = c.in_ok-table.ensures.same in
+    let root = root_of c.in_ok-table.table in
+    let told = c.in_ok-waiting.ensures.told ∙ ap (λ js. completed_buffers c.stored.result.now (waiting_at (job_at n js))) c.as_slice.ensures.value in
+    let here = buffers_at g.D.Disk.state old s stands is_open n t root same c.stored.result.now (map key_rows_view c.in_ok-waiting.waiting.items) c.stored.ensures told in
+    let seen = subst (λ (xs : List CodeKeyRows). AreBuffers root.schema root.keys (map key_rows_view xs) (whole_at g.D.Disk.state old s stands is_open n t root same)) (sym c.as_slice-2.ensures.value) here in
+    let parts = parts_here g.D.Disk.state old s stands is_open n t root same old.options.group_rows given c.in_ok-groups.groups.items c.take_rests.new.groups.items c.in_ok-rests.rests.items refl
+    (c.in_ok-groups.ensures.groups (whole_at g.D.Disk.state old s stands is_open n t root same) seen) c.in_ok-rests.ensures.parts in
     let mid = c.write_groups.new.store in
     refused (λ r. is_failure (answered {T = Unit {0}} (λ x. accepted) r) ≡ true → HasFailed (g.D.Disk.state old.vault.disk) (g.D.Disk.state mid.vault.disk)) c.from_residual-in_err-left.result _ c.from_residual-in_err-left.ensures.1
-    (subst (λ (e : Refusal). is_failure (answered {T = Unit {0}} (λ x. accepted) (Err e)) ≡ true → HasFailed (g.D.Disk.state old.vault.disk) (g.D.Disk.state mid.vault.disk)) (sym (memory_only c.in_err-left.field-0.0 c.in_err-left.ensures.which))
+    (subst (λ (e : Refusal). is_failure (answered {T = Unit {0}} (λ x. accepted) (Err e)) ≡ true → HasFailed (g.D.Disk.state old.vault.disk) (g.D.Disk.state mid.vault.disk)) (sym (memory_only c.in_err-left.field-0.0 (c.in_err-left.ensures.only (stored_of (root_of old.manifest)) parts.rests parts.rests_held)))
     (λ h. absurd (cc)))
 
 pub returns-clause-acts : goal.returns-clause-acts
