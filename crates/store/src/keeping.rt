@@ -75,6 +75,8 @@ impl<D: Disk> Store<D> {
         // No next root, and no part file in a key folder that the root does not name; and no other version is in use.
         ensures clean { (D.state self.old.vault.disk).honest → IsTrue result → IsClean (root_of self.old.manifest) (D.state self.new.vault.disk) }
         ensures remembers { IsTrue result → self.new.clean ≡ true }
+        // Of an open store on which nothing is open, the answer is what the store remembers.
+        ensures says { self.old.closed ≡ false → self.old.jobs.items ≡ [] → self.old.cursors.items ≡ [] → result ≡ self.new.clean }
         ensures idle { IsTrue result → (self.old.jobs.items ≡ []) × (self.old.cursors.items ≡ []) }
         ensures counts { (D.state self.old.vault.disk).failures ≤ (D.state self.new.vault.disk).failures }
         ensures told { IsTrue result → (D.state self.new.vault.disk).failures ≡ (D.state self.old.vault.disk).failures }

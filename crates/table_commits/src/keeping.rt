@@ -42,6 +42,8 @@ pub fn clean_up<D: Disk>(store: &mut Core<D>, alloc: Global) -> bool
     // No next root, and no part file in a key folder that the root does not name; and no other version is in use.
     ensures clean { (D.state store.old.vault.disk).honest → IsTrue result → IsClean (root_of store.old.manifest) (D.state store.new.vault.disk) }
     ensures remembers { IsTrue result → store.new.clean ≡ true }
+    // Of an open store on which nothing is open, the answer is what the store remembers.
+    ensures says { store.old.closed ≡ false → store.old.jobs.items ≡ [] → store.old.cursors.items ≡ [] → result ≡ store.new.clean }
     ensures idle { IsTrue result → (store.old.jobs.items ≡ []) × (store.old.cursors.items ≡ []) }
     ensures counts { (D.state store.old.vault.disk).failures ≤ (D.state store.new.vault.disk).failures }
     ensures told { IsTrue result → (D.state store.new.vault.disk).failures ≡ (D.state store.old.vault.disk).failures }

@@ -55,3 +55,12 @@ returns-clause-same g c =
 
 pub returns-clause-idle : goal.returns-clause-idle
 returns-clause-idle g c fine = c.is_idle.ensures.0 c.if-not-is_idle.false
+
+pub returns-then-store-clause-says : goal.returns-then-store-clause-says
+returns-then-store-clause-says g c is_open jobs cursors = absurd (false≢true (sym is_open ∙ c.if-store.true))
+
+pub returns-then-not-is_idle-clause-says : goal.returns-then-not-is_idle-clause-says
+returns-then-not-is_idle-clause-says g c is_open jobs cursors = absurd (false≢true (sym c.if-not-is_idle.true ∙ c.is_idle.ensures.1 (jobs, cursors)))
+
+pub returns-clause-says : goal.returns-clause-says
+returns-clause-says g c is_open jobs cursors = c.clean_idle-fine.ensures.remembers
