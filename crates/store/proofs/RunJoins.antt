@@ -16,7 +16,7 @@ use Rattle.table_state.specs.Promises.{KeepsPast, IsOlderFile, Acts, ActsFrom, H
 use Rattle.store.specs.Running.{IsOlderThroughout, Runs, RunsFrom, HaveCauses, HasFailedTimes}
 use Rattle.table_commits.proofs.StateCarriedOver.{past_on}
 use Rattle.table_commits.proofs.DisksLeftAlone.{all_here}
-use Rattle.table_commits.proofs.OlderFiles.{kept_read, kept_on}
+use Rattle.table_commits.proofs.OlderFiles.{kept_read, older_kept_on}
 use Rattle.table_commits.proofs.NextRootsKept.{next_kept_since, next_kept_on}
 
 -- what a stop left stays what it left
@@ -82,7 +82,7 @@ module _ {D : Type 0} (state : D → DiskState) where
             (λ is. next_kept_since (state old.vault.disk) (state mid.vault.disk) now run.past.later (acts.doubt is))
             (Contains-push_cases answers answer (refused InDoubt) there);
         kept = λ keeps. let kept = run.kept keeps in
-            kept_on state old mid new (IsOlderThroughout s runs) (IsOlderThroughout s run.runs) (IsOlderFile run.after) (λ path older. (before path older).0) (λ path older. (before path older).1) kept (acts.kept kept.keeps);
+            older_kept_on state old mid new (IsOlderThroughout s runs) (IsOlderThroughout s run.runs) (IsOlderFile run.after) (λ path older. (before path older).0) (λ path older. (before path older).1) kept (acts.kept kept.keeps);
       }
 
   -- each failure that is told has one of its own

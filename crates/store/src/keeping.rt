@@ -46,9 +46,10 @@ impl<D: Disk> Store<D> {
         table_openings::reopen(&mut self.core, alloc)
     }
 
-    /// From here on no call of this store removes a file but [`Store::clean_up`]: a commit leaves the files that it replaces, and
-    /// an opening anew cleans nothing. So a program that began to read an earlier version can go on. Each call says so by its clause
-    /// `acts` (`ActsFrom.kept`). Takes no memory.
+    /// From here on no call of this store but [`Store::clean_up`] removes or changes an older file: a commit leaves the files that
+    /// it replaces, and an opening anew cleans nothing. So a program that began to read an earlier version can go on. Older are all
+    /// files but the root, the next root, and part files under numbers that the store has not given yet, which a crash may have
+    /// left. Each call says so by its clause `acts` (`ActsFrom.kept`). Takes no memory.
     pub fn keep_replaced(&mut self)
         ensures keeps { self.new ≡ record self.old { keeps = true } }
         ensures stands { (s : State) → Stands D.state self.old s → Stands D.state self.new s }

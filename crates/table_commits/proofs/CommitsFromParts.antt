@@ -23,7 +23,7 @@ use Rattle.table_commits.proofs.OneCallMore.{reached_on}
 use Rattle.table_commits.proofs.DoubtCloses.{no_doubt}
 use Rattle.table_commits.proofs.NextRootsKept.{next_kept_since}
 use Rattle.table_commits.proofs.StateCarriedOver.{root_is_older, file_is_older, past_of, past_on, survives_spared}
-use Rattle.table_commits.proofs.OlderFiles.{older_counted, kept_spared, kept_on}
+use Rattle.table_commits.proofs.OlderFiles.{older_counted, kept_spared, older_kept_on}
 
 module _ {D : Type 0} (state : D → DiskState) where
   module _ (old mid : Core D) (s : State) (counter : ℕ) (stands : Stands state old s) (is_open : s.closed ≡ false) (wrote : WroteTo state old mid s counter) where
@@ -65,7 +65,7 @@ module _ {D : Type 0} (state : D → DiskState) where
         stands = record { reached = reached_on s stands.reached call answer turns.after_it happens; shows = turns.shows };
         past = past_on (state old.vault.disk) (state mid.vault.disk) (state new.vault.disk) (past_of (state old.vault.disk) (state mid.vault.disk) wrote.spares.moments) turns.past;
         doubt = λ is. next_kept_since (state old.vault.disk) (state mid.vault.disk) (state new.vault.disk) wrote.spares.moments.later (doubt is);
-        kept = λ keeps. let kept = kept_so_far keeps in kept_on state old mid new (IsOlderFile s) (IsOlderFile s) (IsOlderFile (counted s counter)) (λ path older. older) (older_counted s counter wrote.rises) kept (turns.kept kept.keeps);
+        kept = λ keeps. let kept = kept_so_far keeps in older_kept_on state old mid new (IsOlderFile s) (IsOlderFile s) (IsOlderFile (counted s counter)) (λ path older. older) (older_counted s counter wrote.rises) kept (turns.kept kept.keeps);
       }
 
       stays : Stays s call (counted s counter)

@@ -52,9 +52,9 @@ kept_less state old new Older More fewer kept = record {
 }
 
 -- what one call and the next one leave
-pub kept_on : {D : Type 0} (state : D → DiskState) (old mid new : Core D) (Older Before Later : List ℕ → Type 0) → ((path : List ℕ) → Older path → Before path) → ((path : List ℕ) → Older path → Later path)
+pub older_kept_on : {D : Type 0} (state : D → DiskState) (old mid new : Core D) (Older Before Later : List ℕ → Type 0) → ((path : List ℕ) → Older path → Before path) → ((path : List ℕ) → Older path → Later path)
     → KeepsFiles state old mid Before → KeepsFiles state mid new Later → KeepsFiles state old new Older
-kept_on state old mid new Older Before Later before later one two = record {
+older_kept_on state old mid new Older Before Later before later one two = record {
   keeps = two.keeps;
   moments = joins (Agrees Before) (Agrees Later) (Agrees Older) (state old.vault.disk) (state mid.vault.disk) (state new.vault.disk)
       (λ u v w a b path older. b path (later path older) ∙ a path (before path older)) (λ u v a path older. a path (before path older)) one.moments two.moments;

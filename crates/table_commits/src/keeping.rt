@@ -14,8 +14,9 @@ use snapshots::{Event, Snapshots};
 use std::alloc::Global;
 use table_state::Core;
 
-/// From here on no call of this store removes a file but [`Core::clean_up`]: a commit leaves the files that it replaces, and
-/// an opening anew cleans nothing. So a program that began to read an earlier version can go on. Takes no memory.
+/// From here on no call of this store but [`clean_up`] removes or changes an older file: a commit leaves the files that it replaces,
+/// and an opening anew cleans nothing. So a program that began to read an earlier version can go on. Older are all files but the
+/// root, the next root, and part files under numbers that the store has not given yet, which a crash may have left. Takes no memory.
 pub fn keep_replaced<D: Disk>(store: &mut Core<D>)
     ensures keeps { store.new ≡ record store.old { keeps = true } }
     ensures stands { (s : State) → Stands D.state store.old s → Stands D.state store.new s }
