@@ -74,58 +74,28 @@ WRONG: List[Tuple[Dict[str, Any], Any, str]] = [
     ({"type": "fixed", "length": 3}, b"ab", "3 bytes"),
 ]
 
+
+def list_of(rep: str, item: Dict[str, Any]) -> Dict[str, Any]:
+    """A list of this repetition whose repeated field is this one."""
+    return {"rep": rep, "note": "list", "fields": [{"rep": "repeated", **item}]}
+
+
+def integer(name: str, rep: str) -> Dict[str, Any]:
+    return {"name": name, "rep": rep, "type": "int32"}
+
+
 LISTS: List[Tuple[Dict[str, Any], Any]] = [
     ({"rep": "repeated", "type": "int32", "note": "date"}, [dt.date(2024, 1, 1)]),
-    ({"rep": "optional", "fields": [{"name": "a", "rep": "required", "type": "int32"}]}, {"a": 1}),
+    ({"rep": "optional", "fields": [integer("a", "required")]}, {"a": 1}),
     (
-        {
-            "rep": "optional",
-            "note": "list",
-            "fields": [
-                {"name": "list", "rep": "repeated", "fields": [{"name": "element", "rep": "optional", **CENTS}]}
-            ],
-        },
+        list_of("optional", {"name": "list", "fields": [{"name": "element", "rep": "optional", **CENTS}]}),
         [Decimal("1.25"), None],
     ),
+    (list_of("required", {"name": "array", "type": "bytes"}), [b"a", b""]),
+    (list_of("required", {"name": "array", "fields": [integer("x", "optional")]}), [{"x": 1}, {"x": None}]),
+    (list_of("required", {"name": "v_tuple", "fields": [integer("x", "required")]}), [{"x": 1}]),
     (
-        {"rep": "required", "note": "list", "fields": [{"name": "array", "rep": "repeated", "type": "bytes"}]},
-        [b"a", b""],
-    ),
-    (
-        {
-            "rep": "required",
-            "note": "list",
-            "fields": [
-                {"name": "array", "rep": "repeated", "fields": [{"name": "x", "rep": "optional", "type": "int32"}]}
-            ],
-        },
-        [{"x": 1}, {"x": None}],
-    ),
-    (
-        {
-            "rep": "required",
-            "note": "list",
-            "fields": [
-                {"name": "v_tuple", "rep": "repeated", "fields": [{"name": "x", "rep": "required", "type": "int32"}]}
-            ],
-        },
-        [{"x": 1}],
-    ),
-    (
-        {
-            "rep": "optional",
-            "note": "list",
-            "fields": [
-                {
-                    "name": "list",
-                    "rep": "repeated",
-                    "fields": [
-                        {"name": "a", "rep": "required", "type": "int32"},
-                        {"name": "b", "rep": "repeated", "type": "int32"},
-                    ],
-                }
-            ],
-        },
+        list_of("optional", {"name": "list", "fields": [integer("a", "required"), integer("b", "repeated")]}),
         [{"a": 1, "b": [2, 3]}, {"a": 4, "b": []}],
     ),
     (
@@ -146,30 +116,18 @@ LISTS: List[Tuple[Dict[str, Any], Any]] = [
         [("a", dt.date(2024, 1, 1)), ("a", None)],
     ),
     (
-        {
-            "rep": "optional",
-            "note": "list",
-            "fields": [
-                {
-                    "name": "list",
-                    "rep": "repeated",
-                    "fields": [
-                        {
-                            "name": "element",
-                            "rep": "optional",
-                            "note": "list",
-                            "fields": [
-                                {
-                                    "name": "list",
-                                    "rep": "repeated",
-                                    "fields": [{"name": "element", "rep": "required", "type": "int32"}],
-                                }
-                            ],
-                        }
-                    ],
-                }
-            ],
-        },
+        list_of(
+            "optional",
+            {
+                "name": "list",
+                "fields": [
+                    {
+                        "name": "element",
+                        **list_of("optional", {"name": "list", "fields": [integer("element", "required")]}),
+                    }
+                ],
+            },
+        ),
         [[1, 2], None, []],
     ),
 ]
