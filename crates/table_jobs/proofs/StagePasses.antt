@@ -2,7 +2,7 @@
 use Rattle.std.proofs.Common.{◌≡◌, ◌≤◌, ◌+◌, ℕ, Bool, true, false, not, List, [], ◌∷◌, ◌++◌, map, length, Option, Some, None, refl, sym, ◌∙◌, ap, subst, arith}
 use Rattle.std.specs.Prelude.{IsTrue}
 use Rattle.std.specs.List.{AllByRecursion}
-use Rattle.lists.proofs.Lists.{all_append}
+use Rattle.lists.proofs.Lists.{all_append, all_weaker}
 use Rattle.bits.specs.declared.refusal.Refusal.{Refusal}
 use Rattle.bits.specs.declared.refusal.Refusal.TheVariants.{Closed, Full}
 use Rattle.schema.specs.Shape.{Fields}
@@ -46,12 +46,10 @@ parts s n given e = by (not s.closed) (append_fault (open_at n s.jobs)) (can_cou
     by false o b p f = absurd (cc)
 
 keys_rows : (s : State) (rows : List Row) → AreFine s rows → HaveKeys s.table.keys rows
-keys_rows s [] fine = tt
-keys_rows s (row ∷ rows) fine = (fine.0.1, keys_rows s rows fine.1)
+keys_rows s rows fine = all_weaker (λ (row : Row). IsTrue (fits_each s.table.schema row) × CanPartition s.table.keys (key_of_row s.table.keys row)) (λ (row : Row). CanPartition s.table.keys (key_of_row s.table.keys row)) (λ row h. h.1) rows fine
 
 fit_rows : (s : State) (rows : List Row) → AreFine s rows → RowsFit s.table.schema rows
-fit_rows s [] fine = tt
-fit_rows s (row ∷ rows) fine = (fine.0.0, fit_rows s rows fine.1)
+fit_rows s rows fine = all_weaker (λ (row : Row). IsTrue (fits_each s.table.schema row) × CanPartition s.table.keys (key_of_row s.table.keys row)) (λ (row : Row). IsTrue (fits_each s.table.schema row)) (λ row h. h.0) rows fine
 
 module _ {D : Type 0} (state : D → DiskState) (old : Core D) (s : State) (stands : Stands state old s) (is_open : s.closed ≡ false) (n : ℕ) where
   -- the description's stored fields are the table's
